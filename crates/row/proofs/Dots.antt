@@ -1,7 +1,7 @@
 -- Laws of dots, and of the row that a rule gives. Assumes nothing.
 use mathlib.Core.Path.{_≡_, refl, sym, ap, ap₂, _∙_, fun-ext}
 use mathlib.Core.Bool.{Bool, true, false, cond}
-use mathlib.Core.List.{List, [], _∷_, _++_}
+use mathlib.Core.List.{List, _∷_, _++_}
 use Prim.Native.Nat.{ℕ, zero, suc, _+_, _-_, _*_, _/_, _%_, _^_, _<_, _≤_}
 use native.Mathlib.Nat.{zero-add, suc-add, zero-div, not-suc-le-zero, le-of-suc-le-suc}
 use native.Mathlib.Omega.{arith}
@@ -9,9 +9,9 @@ use native.Mathlib.Decide.{decLt}
 use lib.Bits.{bitAnd, bitOr, and-shr, and-mod, or-shr, or-mod}
 use lib.Dec.{eqb, eqb→eq, lit<}
 use lib.ListN.{length, getD, drop, length-drop, List·getD-append, List·getD-eq-default}
-use lib.Seq.{ext-getD, getD-append-add, getD-drop}
+use lib.Seq.{ext-getD, getD-drop, drop-append-seam}
 use Rattle.row.specs.Dots.{dotIn, dotAt, bit, byteOf, rowOf}
-use Rattle.row.proofs.Tests.{all-at}
+use Rattle.row.proofs.Tests.{all-at, same-at}
 
 -- ---- the dots of a byte
 
@@ -67,31 +67,16 @@ byteOf-dots b h = eqb→eq (byteOf (dotIn b)) b (all-at 256 (λ b. eqb (byteOf (
 
 pub byteOf-lt : (d : ℕ → Bool) → byteOf d < 256
 unfolding byteOf
-byteOf-lt d =
-    let b0 = bit-lt (d 0) in
-    let b1 = bit-lt (d 1) in
-    let b2 = bit-lt (d 2) in
-    let b3 = bit-lt (d 3) in
-    let b4 = bit-lt (d 4) in
-    let b5 = bit-lt (d 5) in
-    let b6 = bit-lt (d 6) in
-    let b7 = bit-lt (d 7) in
-    omega arith
+byteOf-lt d = omega (arith, bit-lt (d 0), bit-lt (d 1), bit-lt (d 2), bit-lt (d 3), bit-lt (d 4), bit-lt (d 5), bit-lt (d 6), bit-lt (d 7))
 
 -- the byte 0 has no dot
 pub dot-zero : (k : ℕ) → dotIn 0 k ≡ false
 unfolding dotIn
 dot-zero k = rw zero-div
 
--- the dots of `b | m`, `b & m` and `b & !m`
+-- the dots of `b | m` and of `b & m`
 or-digit : (x y : ℕ) → x < 2 → y < 2 → eqb (bitOr x y) 1 ≡ cond (eqb y 1) true (eqb x 1)
-or-digit zero zero h l = refl
-or-digit zero (suc zero) h l = refl
-or-digit (suc zero) zero h l = refl
-or-digit (suc zero) (suc zero) h l = refl
-or-digit zero (suc (suc y)) h l = absurd (omega arith)
-or-digit (suc zero) (suc (suc y)) h l = absurd (omega arith)
-or-digit (suc (suc x)) y h l = absurd (omega arith)
+or-digit = same-at 2 2 (λ x y. eqb (bitOr x y) 1) (λ x y. cond (eqb y 1) true (eqb x 1)) tt
 
 pub dot-or : (b m k : ℕ) → dotIn (bitOr b m) k ≡ cond (dotIn m k) true (dotIn b k)
 unfolding dotIn
@@ -101,13 +86,7 @@ dot-or b m k =
     ∙ or-digit (b / 2 ^ s % 2) (m / 2 ^ s % 2) (digit-lt (b / 2 ^ s)) (digit-lt (m / 2 ^ s))
 
 and-digit : (x y : ℕ) → x < 2 → y < 2 → eqb (bitAnd x y) 1 ≡ cond (eqb y 1) (eqb x 1) false
-and-digit zero zero h l = refl
-and-digit zero (suc zero) h l = refl
-and-digit (suc zero) zero h l = refl
-and-digit (suc zero) (suc zero) h l = refl
-and-digit zero (suc (suc y)) h l = absurd (omega arith)
-and-digit (suc zero) (suc (suc y)) h l = absurd (omega arith)
-and-digit (suc (suc x)) y h l = absurd (omega arith)
+and-digit = same-at 2 2 (λ x y. eqb (bitAnd x y) 1) (λ x y. cond (eqb y 1) (eqb x 1) false) tt
 
 pub dot-and : (b m k : ℕ) → dotIn (bitAnd b m) k ≡ cond (dotIn m k) (dotIn b k) false
 unfolding dotIn
@@ -137,18 +116,6 @@ dot-past row f h =
     let l : length row ≤ f / 8 = omega arith in
     ap (λ (b : ℕ). dotIn b (f % 8)) (List·getD-eq-default row 0 l) ∙ dot-zero (f % 8)
 
--- the dots of two rows end to end
-pub dot-front : (a b : List ℕ) (f : ℕ) → f < 8 * length a → dotAt (a ++ b) f ≡ dotAt a f
-unfolding dotAt
-dot-front a b f h = ap (λ (x : ℕ). dotIn x (f % 8)) (List·getD-append a b 0 (f / 8) (omega arith))
-
-pub dot-back : (a b : List ℕ) (f : ℕ) → dotAt (a ++ b) (8 * length a + f) ≡ dotAt b f
-unfolding dotAt
-dot-back a b f =
-    let q : (8 * length a + f) / 8 ≡ length a + f / 8 = omega arith in
-    let m : (8 * length a + f) % 8 ≡ f % 8 = omega arith in
-    ap₂ (λ (x y : ℕ). dotIn (getD (a ++ b) x 0) y) q m ∙ ap (λ (x : ℕ). dotIn x (f % 8)) (getD-append-add a b (f / 8) 0)
-
 -- the dots of a row from its byte m on
 pub dot-drop : (row : List ℕ) (m f : ℕ) → dotAt (drop m row) f ≡ dotAt row (8 * m + f)
 unfolding dotAt
@@ -157,12 +124,24 @@ dot-drop row m f =
     let k : (8 * m + f) % 8 ≡ f % 8 = omega arith in
     ap (λ (x : ℕ). dotIn x (f % 8)) (getD-drop m row (f / 8) 0) ∙ sym (ap₂ (λ (x y : ℕ). dotIn (getD row x 0) y) q k)
 
+-- the dots of two rows end to end
+pub dot-front : (a b : List ℕ) (f : ℕ) → f < 8 * length a → dotAt (a ++ b) f ≡ dotAt a f
+unfolding dotAt
+dot-front a b f h = ap (λ (x : ℕ). dotIn x (f % 8)) (List·getD-append a b 0 (f / 8) (omega arith))
+
+pub dot-back : (a b : List ℕ) (f : ℕ) → dotAt (a ++ b) (8 * length a + f) ≡ dotAt b f
+dot-back a b f = sym (dot-drop (a ++ b) (length a) f) ∙ ap (λ (r : List ℕ). dotAt r f) (drop-append-seam a b)
+
 -- ---- the row that a rule gives
 
 pub length-rowOf : (n : ℕ) (d : ℕ → Bool) → length (rowOf n d) ≡ n
 unfolding rowOf
 length-rowOf zero d = refl
 length-rowOf (suc n) d = ap suc (length-rowOf n (λ f. d (8 + f)))
+
+-- the length of a row that is known by its dots
+pub length-is : (n : ℕ) (d : ℕ → Bool) (row : List ℕ) → row ≡ rowOf n d → length row ≡ n
+length-is n d row e = ap length e ∙ length-rowOf n d
 
 -- its byte i
 pub rowOf-at : (n : ℕ) (d : ℕ → Bool) (i : ℕ) → i < n → getD (rowOf n d) i 0 ≡ byteOf (λ k. d (8 * i + k))
@@ -198,6 +177,10 @@ dot-rowOf n d f h =
     ap (λ (b : ℕ). dotIn b (f % 8)) (rowOf-at n d (f / 8) (omega arith))
     ∙ dot-byteOf (λ k. d (8 * (f / 8) + k)) (f % 8) (omega arith) ∙ ap d g
 
+-- and past its end they are 0
+pub dot-rowOf-past : (n : ℕ) (d : ℕ → Bool) (f : ℕ) → 8 * n ≤ f → dotAt (rowOf n d) f ≡ false
+dot-rowOf-past n d f h = let l : 8 * length (rowOf n d) ≤ f = rw (length-rowOf n d) h in dot-past (rowOf n d) f l
+
 -- a row of n bytes with the dots of a rule is the row that the rule gives
 pub row-is : (n : ℕ) (d : ℕ → Bool) (row : List ℕ) → Bytes row → length row ≡ n → ((f : ℕ) → f < 8 * n → dotAt row f ≡ d f) → row ≡ rowOf n d
 row-is n d row bytes e h =
@@ -223,7 +206,7 @@ rowOf-add (suc m) n d =
     ∙ ap (λ (r : List ℕ). rowOf m (λ f. d (8 + f)) ++ r)
     (rowOf-same n (λ f. d (8 + (8 * m + f))) (λ f. d (8 * suc m + f)) (λ f h. ap d (omega arith))))
 
--- Dots rewritten: where row has the dots d, and the dot f of row′ is c f of what it was, row′ has the dots c f (d f).
+-- Dots rewritten one by one: where row has the dots d, and dot f of row′ is made by c f of what it was in row, row′ has the dots c f (d f).
 pub rewritten : (n : ℕ) (c : ℕ → Bool → Bool) (d : ℕ → Bool) (row row′ : List ℕ) → row ≡ rowOf n d → row′ ≡ rowOf (length row) (λ f. c f (dotAt row f))
     → row′ ≡ rowOf n (λ f. c f (d f))
 rewritten n c d row row′ e e′ =

@@ -14,7 +14,7 @@ use lib.ListN.{length, getD}
 use Rattle.row.specs.Dots.{dotIn, dotAt, rowOf}
 use Rattle.row.specs.Spare.{clearFrom, spareClear}
 use Rattle.row.proofs.Tests.{Is, same-at}
-use Rattle.row.proofs.Dots.{Bytes, dot-in, dot-past, dot-rowOf, length-rowOf}
+use Rattle.row.proofs.Dots.{Bytes, dot-in, dot-past, dot-rowOf, dot-rowOf-past}
 
 -- ---- a stretch of dots that are all 0
 
@@ -117,4 +117,4 @@ spare-rowOf n d width h = spare-is (rowOf n d) width .said (λ f l. go f l (decL
   where
     go : (f : ℕ) → width ≤ f → Dec (f < 8 * n) → dotAt (rowOf n d) f ≡ false
     go f l (yes m) = dot-rowOf n d f m ∙ h f l
-    go f l (no m) = let k : 8 * length (rowOf n d) ≤ f = rw (length-rowOf n d) (omega arith) in dot-past (rowOf n d) f k
+    go f l (no m) = dot-rowOf-past n d f (omega arith)

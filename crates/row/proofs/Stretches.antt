@@ -1,21 +1,22 @@
 -- Laws of dots written. Assumes nothing.
 use mathlib.Core.Path.{_≡_, refl, sym, ap, _∙_}
 use mathlib.Core.Bool.{Bool, true, false, cond, not, _&&_}
+use mathlib.Core.Logic.{_⊎_, ⊎-elim}
 use mathlib.Core.List.{List, [], _∷_, _++_}
-use Prim.Native.Nat.{ℕ, zero, suc, _+_, _-_, _*_, _/_, _%_, _^_, _<_, _≤_}
+use Prim.Native.Nat.{ℕ, zero, suc, _+_, _-_, _*_, _/_, _%_, _^_, _<_, _≤_, max}
 use native.Mathlib.Nat.{lt-of-le-of-lt}
 use native.Mathlib.Omega.{arith}
 use native.Mathlib.Decide.{ℕ-discrete, decLe, decLt}
 use borrow.Author.Tests.{eq-eqb, ne-eqb, lt-ltb, le-ltb, le-leb, lt-leb}
 use lib.Bits.{bitAnd, bitOr, and-le-l, or-lt}
-use lib.Dec.{eqb, leb, ltb, eqb→eq, lit<}
+use lib.Dec.{eqb, leb, ltb, lit<}
 use lib.ListN.{length, getD, set, drop, length-set}
 use lib.Pow.{shr-le}
 use lib.Seq.{getD-set-same, getD-set-other}
-use Rattle.row.specs.Dots.{dotIn, dotAt, bit, rowOf}
+use Rattle.row.specs.Dots.{dotIn, dotAt, rowOf}
 use Rattle.row.specs.Stretches.{withDot, filled}
 use Rattle.row.proofs.Tests.{leb-is, ltb-is, and-is, is-same, same-at}
-use Rattle.row.proofs.Dots.{Bytes, dot-or, dot-and, row-is, rowOf-same, rowOf-dots, rowOf-front, rewritten}
+use Rattle.row.proofs.Dots.{Bytes, dot-or, dot-and, row-is, rowOf-same, rowOf-front, rewritten}
 
 -- ---- what a stretch holds
 
@@ -105,28 +106,30 @@ bytes-set (x ∷ xs) zero y h l (suc j) = h (suc j)
 bytes-set (x ∷ xs) (suc i) y h l zero = h zero
 bytes-set (x ∷ xs) (suc i) y h l (suc j) = bytes-set xs i y (λ k. h (suc k)) l j
 
--- the row after dot f's byte has been stored
-pub set-dot : (row : List ℕ) (f m y : ℕ) (v : Bool) → Bytes row → f / 8 < length row → m ≡ 128 / 2 ^ (f % 8) → y ≡ stored v (getD row (f / 8) 0) m
-    → set row (f / 8) y ≡ rowOf (length row) (withDot f v (dotAt row))
+-- the row after the byte of dot f has been stored
+pub set-dot : (row : List ℕ) (f m : ℕ) (v w : Bool) → Bytes row → f / 8 < length row → m ≡ 128 / 2 ^ (f % 8) → v ≡ w
+    → set row (f / 8) (stored w (getD row (f / 8) 0) m) ≡ rowOf (length row) (withDot f v (dotAt row))
 unfolding dotAt withDot
-set-dot row f m y v bytes h em ey =
-    let b = getD row (f / 8) 0 in
-    let z = stored v b (128 / 2 ^ (f % 8)) in
-    ap (set row (f / 8)) (ey ∙ ap (stored v b) em)
-    ∙ row-is (length row) (withDot f v (dotAt row)) (set row (f / 8) z)
-    (bytes-set row (f / 8) z bytes (stored-lt v b (128 / 2 ^ (f % 8)) (bytes (f / 8)) (lt-of-le-of-lt (shr-le 128 (f % 8)) (lit< tt))))
-    (length-set row (f / 8) z) (λ g l. go g (ℕ-discrete (g / 8) (f / 8)) (ℕ-discrete g f))
+set-dot row f m v w bytes h em ev =
+    let y = stored w b (128 / 2 ^ (f % 8)) in
+    ap (λ (x : ℕ). set row (f / 8) (stored w b x)) em
+    ∙ row-is (length row) (withDot f w (dotAt row)) (set row (f / 8) y)
+    (bytes-set row (f / 8) y bytes (stored-lt w b (128 / 2 ^ (f % 8)) (bytes (f / 8)) (lt-of-le-of-lt (shr-le 128 (f % 8)) (lit< tt))))
+    (length-set row (f / 8) y) (λ g l. go g (ℕ-discrete (g / 8) (f / 8)) (ℕ-discrete g f))
+    ∙ ap (λ (x : Bool). rowOf (length row) (withDot f x (dotAt row))) (sym ev)
   where
-    go : (g : ℕ) → Dec (g / 8 ≡ f / 8) → Dec (g ≡ f)
-        → dotAt (set row (f / 8) (stored v (getD row (f / 8) 0) (128 / 2 ^ (f % 8)))) g ≡ withDot f v (dotAt row) g
+    b : ℕ
+    b = getD row (f / 8) 0
+
+    same-test : (g : ℕ) → g / 8 ≡ f / 8 → Dec (g ≡ f) → eqb (g % 8) (f % 8) ≡ eqb g f
+    same-test g p (yes q) = eq-eqb (g % 8) (f % 8) (ap (λ (x : ℕ). x % 8) q) ∙ sym (eq-eqb g f q)
+    same-test g p (no n) = ne-eqb (g % 8) (f % 8) (λ e. n (omega arith)) ∙ sym (ne-eqb g f n)
+
+    go : (g : ℕ) → Dec (g / 8 ≡ f / 8) → Dec (g ≡ f) → dotAt (set row (f / 8) (stored w b (128 / 2 ^ (f % 8)))) g ≡ withDot f w (dotAt row) g
     go g (no n) e = rw (getD-set-other row (f / 8) (g / 8) _ 0 n, ne-eqb g f (λ q. n (ap (λ (x : ℕ). x / 8) q)))
     go g (yes p) e =
-        rw (p, getD-set-same row (f / 8) _ 0 h, stored-dot v (getD row (f / 8) 0) (f % 8) (g % 8) (omega arith) (omega arith))
-        (ap (λ (x : Bool). cond x v (dotIn (getD row (f / 8) 0) (g % 8))) (same-test e))
-      where
-        same-test : Dec (g ≡ f) → eqb (g % 8) (f % 8) ≡ eqb g f
-        same-test (yes q) = eq-eqb (g % 8) (f % 8) (ap (λ (x : ℕ). x % 8) q) ∙ sym (eq-eqb g f q)
-        same-test (no n) = ne-eqb (g % 8) (f % 8) (λ e. n (omega arith)) ∙ sym (ne-eqb g f n)
+        rw (p, getD-set-same row (f / 8) _ 0 h, stored-dot w b (f % 8) (g % 8) (omega arith) (omega arith))
+        (ap (λ (x : Bool). cond x w (dotIn b (g % 8))) (same-test g p e))
 
 -- past the row's end there is no dot to write
 pub set-dot-past : (row : List ℕ) (f : ℕ) (v : Bool) → Bytes row → length row ≤ f / 8 → row ≡ rowOf (length row) (withDot f v (dotAt row))
@@ -173,6 +176,14 @@ fill-more n from f v d row row′ h e e′ =
     set-row n f v (filled from f v d) row row′ e e′
     ∙ rowOf-same n (withDot f v (filled from f v d)) (filled from (f + 1) v d)
     (λ g l. withDot-filled f v (filled from f v d) g ∙ filled-join from f (f + 1) v d g h (omega arith))
+
+-- all is filled: f is at the stretch's end, or past the row's
+pub fill-done : (n from to f : ℕ) (v : Bool) (d : ℕ → Bool) (row : List ℕ) → from ≤ f → f ≤ max from to → (to ≤ f) ⊎ (n ≤ f / 8)
+    → row ≡ rowOf n (filled from f v d) → row ≡ rowOf n (filled from to v d)
+fill-done n from to f v d row h l end e =
+    e
+    ∙ ⊎-elim (λ p. filled-same n from f to v d (λ g m a b. omega arith) (λ g m a b. omega arith))
+    (λ p. filled-same n from f to v d (λ g m a b. omega arith) (λ g m a b. omega arith)) end
 
 -- filled from `from` to `mid`, and then from `mid` to `to`, a row is filled from `from` to `to`
 pub fill-join : (n from mid to : ℕ) (v : Bool) (d : ℕ → Bool) (row row′ : List ℕ) → from ≤ mid → mid ≤ to → row ≡ rowOf n (filled from mid v d)

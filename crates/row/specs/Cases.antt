@@ -1,12 +1,12 @@
 -- Worked cases of each definition. The check computes both sides of every line.
-use mathlib.Core.Path.{_≡_, refl}
+use mathlib.Core.Path.{_≡_}
 use mathlib.Core.Bool.{Bool, true, false}
 use mathlib.Core.List.{List, [], _∷_}
 use Prim.Native.Nat.{ℕ}
 use lib.Count.{ones}
 use Rattle.row.specs.Dots.{dotIn, dotAt, byteOf, rowOf}
 use Rattle.row.specs.Stretches.{withDot, filled}
-use Rattle.row.specs.Counts.{onesOf, inked}
+use Rattle.row.specs.Counts.{onesOf, inked, joined, total}
 use Rattle.row.specs.Runs.{firstNot, runEnd}
 use Rattle.row.specs.Spare.{clearFrom, spareClear}
 
@@ -46,6 +46,8 @@ pub record Worked : Type 0 where
   pub ones-empty : onesOf [] ≡ 0
   pub inked-example : inked 16 (dotAt example) ≡ 4
   pub inked-part : inked 3 (dotAt example) ≡ 2
+  pub end-to-end : joined ((0x70 ∷ []) ∷ [] ∷ (0x01 ∷ 0x02 ∷ []) ∷ []) ≡ 0x70 ∷ 0x01 ∷ 0x02 ∷ []
+  pub added-up : total (3 ∷ 0 ∷ 4 ∷ []) ≡ 7
   pub run-of-0 : runEnd (dotAt example) 0 16 ≡ 1
   pub run-of-1 : runEnd (dotAt example) 1 16 ≡ 4
   pub run-to-width : runEnd (dotAt example) 4 12 ≡ 12
@@ -60,5 +62,5 @@ pub record Worked : Type 0 where
   pub spare-all : spareClear (0x80 ∷ []) 0 ≡ false
 
 pub worked : Worked
-unfolding dotIn dotAt byteOf rowOf withDot filled onesOf ones inked firstNot runEnd clearFrom spareClear
+unfolding dotIn dotAt byteOf rowOf withDot filled onesOf ones inked joined total firstNot runEnd clearFrom spareClear
 worked = search

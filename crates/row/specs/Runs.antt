@@ -2,7 +2,7 @@
 use mathlib.Core.Bool.{Bool, cond, Bool·beq}
 use Prim.Native.Nat.{ℕ, zero, suc, _-_}
 
--- the first of the n dots from f on that is not v; `none` where all of them are v
+-- the first of the n dots from f on that is not v, or `none` where all of them are v: f itself, or what the dots after f give
 unfoldable pub firstNot : Bool → (ℕ → Bool) → ℕ → ℕ → ℕ → ℕ
 firstNot v d none f zero = none
 firstNot v d none f (suc n) = let later = firstNot v d none (suc f) n in cond (Bool·beq (d f) v) later f

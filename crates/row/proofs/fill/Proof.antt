@@ -1,14 +1,15 @@
 -- `row::fill` meets its contract. The loop's invariant: the dots from `from` up to f are filled, and the others are as they were.
 -- Assumes nothing.
-use mathlib.Core.Path.{_≡_, ap, _∙_}
+use mathlib.Core.Path.{_≡_}
+use mathlib.Core.Logic.{inl, inr}
 use Prim.Native.Nat.{_≤_, _-_, _/_, max}
 use native.Mathlib.Omega.{arith}
 use borrow.Author.Tests.{ltb-false}
 use lib.ListN.{length}
 use Rattle.row.specs.Dots.{dotAt, rowOf}
 use Rattle.row.specs.Stretches.{filled}
-use Rattle.row.proofs.Dots.{length-rowOf}
-use Rattle.row.proofs.Stretches.{fill-none, fill-more, filled-same}
+use Rattle.row.proofs.Dots.{length-is}
+use Rattle.row.proofs.Stretches.{fill-none, fill-more, fill-done}
 use Rattle.row.proofs.fill.Statement.{statement}
 use Rattle.row.proofs.fill.Tie as tie
 
@@ -26,40 +27,35 @@ loop-holds c =
 set-dot-requires : tie.Need-set-dot-requires Inv-loop μ-loop
 set-dot-requires c κs = tt
 
+loop-again : tie.Need-loop-again Inv-loop μ-loop
+loop-again c =
+    let h = c .before .before .before .before .before .before in
+    let s = c .before .before .set-dot in
+    (omega arith, omega arith, fill-more _ _ _ _ _ _ _ (h .loop .inv .0) (h .loop .inv .2) (s .ensures))
+
 add-f : tie.Need-add-f Inv-loop μ-loop
 add-f c = omega arith
 
 loop-less : tie.Need-loop-less Inv-loop μ-loop
 loop-less c = omega arith
 
-loop-again : tie.Need-loop-again Inv-loop μ-loop
-loop-again c =
-    let h = c .before .before .before .before .before .before in
-    let a = h .before .before .args in
-    let s = c .before .before .set-dot in
-    (omega arith, omega arith, fill-more (length (a .row .now)) (a .from) (h .loop .f) (a .v) (dotAt (a .row .now)) (h .loop .row) (s .last .0) (h .loop .inv .0) (h .loop .inv .2) (s .ensures))
-
 same-length : tie.Need-same-length Inv-loop μ-loop
-same-length c = ap length (c .before .before .loop .inv .2) ∙ length-rowOf _ _
+same-length c = length-is _ _ _ (c .before .before .loop .inv .2)
 
 returns : tie.Need-returns Inv-loop μ-loop
 returns c =
     let h = c .before .before in
-    let a = h .before .before .args in
     let past : length (h .loop .row) ≤ h .loop .f / 8 = ltb-false _ _ (c .if1 .left) in
-    let long : length (h .loop .row) ≡ length (a .row .now) = ap length (h .loop .inv .2) ∙ length-rowOf _ _ in
-    h .loop .inv .2
-    ∙ filled-same (length (a .row .now)) (a .from) (h .loop .f) (a .to) (a .v) (dotAt (a .row .now)) (λ g l p q. omega arith) (λ g l p q. omega arith)
+    let end : length (h .before .before .args .row .now) ≤ h .loop .f / 8 = omega (arith, length-is _ _ _ (h .loop .inv .2)) in
+    fill-done _ _ _ _ _ _ _ (h .loop .inv .0) (h .loop .inv .1) (inr end) (h .loop .inv .2)
 
 same-length-2 : tie.Need-same-length-2 Inv-loop μ-loop
-same-length-2 c = ap length (c .before .loop .inv .2) ∙ length-rowOf _ _
+same-length-2 c = length-is _ _ _ (c .before .loop .inv .2)
 
 returns-2 : tie.Need-returns-2 Inv-loop μ-loop
 returns-2 c =
     let h = c .before in
-    let a = h .before .before .args in
-    h .loop .inv .2
-    ∙ filled-same (length (a .row .now)) (a .from) (h .loop .f) (a .to) (a .v) (dotAt (a .row .now)) (λ g l p q. omega arith) (λ g l p q. omega arith)
+    fill-done _ _ _ _ _ _ _ (h .loop .inv .0) (h .loop .inv .1) (inl (omega arith)) (h .loop .inv .2)
 
 pub fill-spec : {M : Type 1} → statement M
 fill-spec =

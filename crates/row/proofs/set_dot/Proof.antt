@@ -1,9 +1,7 @@
 -- `row::set_dot` meets its contract: the byte that it stores has the old dots but for dot f. Assumes nothing.
-use mathlib.Core.Path.{sym, ap}
-use mathlib.Core.Bool.{Bool}
-use Prim.Native.Nat.{_/_}
-use lib.ListN.{getD, length-set}
-use Rattle.row.proofs.Stretches.{stored, set-dot, set-dot-past}
+use mathlib.Core.Bool.{true, false}
+use lib.ListN.{length-set}
+use Rattle.row.proofs.Stretches.{set-dot, set-dot-past}
 use Rattle.row.proofs.set_dot.Statement.{statement}
 use Rattle.row.proofs.set_dot.Tie as tie
 
@@ -30,8 +28,7 @@ returns c =
     let s = c .before .before .before .before in
     let a = s .before .args in
     let m = c .before .before .before .mask in
-    set-dot (a .row .now) (a .f) (m .result) _ (a .v) (λ j. s .slice-known .given j .fits) (c .before .before .if1 .taken) (m .ensures)
-    (ap (λ (v : Bool). stored v (getD (a .row .now) (a .f / 8) 0) (m .result)) (sym (c .before .if2 .taken)))
+    set-dot (a .row .now) (a .f) (m .result) (a .v) true (λ j. s .slice-known .given j .fits) (c .before .before .if1 .taken) (m .ensures) (c .before .if2 .taken)
 
 same-length-2 : tie.Need-same-length-2
 same-length-2 c = simp length-set
@@ -41,8 +38,7 @@ returns-2 c =
     let s = c .before .before .before .before in
     let a = s .before .args in
     let m = c .before .before .before .mask in
-    set-dot (a .row .now) (a .f) (m .result) _ (a .v) (λ j. s .slice-known .given j .fits) (c .before .before .if1 .taken) (m .ensures)
-    (ap (λ (v : Bool). stored v (getD (a .row .now) (a .f / 8) 0) (m .result)) (sym (c .before .if2 .left)))
+    set-dot (a .row .now) (a .f) (m .result) (a .v) false (λ j. s .slice-known .given j .fits) (c .before .before .if1 .taken) (m .ensures) (c .before .if2 .left)
 
 returns-3 : tie.Need-returns-3
 returns-3 c =
