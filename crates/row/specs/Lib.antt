@@ -1,6 +1,6 @@
 -- What the contracts of `row` mean: the definitions that a reader has to believe, each short enough to be computed by hand.
--- The files, in reading order: Dots (what a dot is), Stretches (dots written), Counts (dots counted), Runs (where a run of like dots ends),
--- Spare (the dots past a width), Cases (worked cases, which the check computes).
+-- The files, in reading order: Dots (what a dot is), Stretches (dots written), Counts (dots counted), Runs (where a run of like dots ends) and
+-- Spare (the dots past a width). Each ends with worked cases: the check computes both sides of every line and refuses one that differs.
 --
 -- How to read a definition. `f : A → B → C` says that f takes an A and a B and gives a C, and `f a b` is f at a and b; the words in front of
 -- it, `unfoldable`, `abbrev` and `pub`, only say who may look inside. ℕ is the whole numbers from 0 on; `/` rounds down, `%` is the
@@ -18,4 +18,3 @@ pub mod Stretches
 pub mod Counts
 pub mod Runs
 pub mod Spare
-pub mod Cases
