@@ -7,11 +7,11 @@ use native.Mathlib.Nat.{zero-add, suc-add, zero-div, not-suc-le-zero, le-of-suc-
 use native.Mathlib.Omega.{arith}
 use native.Mathlib.Decide.{decLt}
 use lib.Bits.{bitAnd, bitOr, and-shr, and-mod, or-shr, or-mod}
-use lib.Dec.{eqb, eqb→eq, lit<}
+use lib.Dec.{eqb, lit<}
 use lib.ListN.{length, getD, drop, length-drop, List·getD-append, List·getD-eq-default}
 use lib.Seq.{ext-getD, getD-drop, drop-append-seam}
 use Rattle.row.specs.Dots.{dotIn, dotAt, bit, byteOf, rowOf}
-use Rattle.row.proofs.Tests.{all-at, same-at}
+use Rattle.row.proofs.Tests.{eq-at, same-at}
 
 -- ---- the dots of a byte
 
@@ -27,7 +27,7 @@ below8 P a b c d e f g h (suc (suc (suc (suc (suc (suc zero)))))) l = g
 below8 P a b c d e f g h (suc (suc (suc (suc (suc (suc (suc zero))))))) l = h
 below8 P a b c d e f g h (suc (suc (suc (suc (suc (suc (suc (suc n)))))))) l = absurd (omega arith)
 
-bit-lt : (b : Bool) → bit b < 2
+pub bit-lt : (b : Bool) → bit b < 2
 bit-lt true = omega arith
 bit-lt false = omega arith
 
@@ -63,7 +63,7 @@ byteOf-same d e h =
 -- a byte is what its own dots give
 pub byteOf-dots : (b : ℕ) → b < 256 → byteOf (dotIn b) ≡ b
 unfolding dotIn byteOf
-byteOf-dots b h = eqb→eq (byteOf (dotIn b)) b (all-at 256 (λ b. eqb (byteOf (dotIn b)) b) tt b h)
+byteOf-dots = eq-at 256 (λ b. byteOf (dotIn b)) (λ b. b) tt
 
 pub byteOf-lt : (d : ℕ → Bool) → byteOf d < 256
 unfolding byteOf

@@ -7,7 +7,7 @@ use native.Mathlib.Nat.{eq-or-lt-of-le}
 use native.Mathlib.Omega.{arith}
 use native.Mathlib.Decide.{decLt}
 use Rattle.row.specs.Runs.{firstNot, runEnd}
-use Rattle.row.proofs.Tests.{Is, beq-is, is-false}
+use Rattle.row.proofs.Tests.{Is, beq-is, is-false, from-next}
 
 -- ---- the search, dot by dot
 
@@ -53,16 +53,12 @@ found v d none f (suc n) = go (Bool·beq (d f) v) (beq-is (d f) v) (found v d no
     later : ℕ
     later = firstNot v d none (suc f) n
 
-    -- dot f is v, and so are the dots after it below r
-    on : (r : ℕ) → d f ≡ v → ((g : ℕ) → suc f ≤ g → g < r → d g ≡ v) → (g : ℕ) → f ≤ g → g < r → d g ≡ v
-    on r e h g a b = ⊎-elim (λ q. ap d (sym q) ∙ e) (λ l. h g l b) (eq-or-lt-of-le a)
-
     go : (t : Bool) → Is t (d f ≡ v) → First v d (suc f) n later ⊎ ((later ≡ none) × All v d (suc f) n)
         → First v d f (suc n) (cond t later f) ⊎ ((cond t later f ≡ none) × All v d f (suc n))
     go false t rest = inl (record { from = omega arith; below = omega arith; differs = λ e. true≢false (sym (t .said e)); like = λ g h l. absurd (omega arith) })
     go true t (inl r) =
-        inl (record { from = omega (arith, r .from); below = omega (arith, r .below); differs = r .differs; like = on later (t .holds refl) (r .like) })
-    go true t (inr r) = inr (r .0, on (f + suc n) (t .holds refl) (λ g h l. r .1 g h (omega arith)))
+        inl (record { from = omega (arith, r .from); below = omega (arith, r .below); differs = r .differs; like = from-next (λ g. d g ≡ v) f later (t .holds refl) (r .like) })
+    go true t (inr r) = inr (r .0, from-next (λ g. d g ≡ v) f (f + suc n) (t .holds refl) (λ g h l. r .1 g h (omega arith)))
 
 -- ---- the end of a run
 

@@ -1,9 +1,8 @@
 -- Laws of dots written. Assumes nothing.
 use mathlib.Core.Path.{_≡_, refl, sym, ap, _∙_}
 use mathlib.Core.Bool.{Bool, true, false, cond, not, _&&_}
-use mathlib.Core.Logic.{_⊎_, ⊎-elim}
 use mathlib.Core.List.{List, [], _∷_, _++_}
-use Prim.Native.Nat.{ℕ, zero, suc, _+_, _-_, _*_, _/_, _%_, _^_, _<_, _≤_, max}
+use Prim.Native.Nat.{ℕ, zero, suc, _+_, _-_, _*_, _/_, _%_, _^_, _<_, _≤_, min, max}
 use native.Mathlib.Nat.{lt-of-le-of-lt}
 use native.Mathlib.Omega.{arith}
 use native.Mathlib.Decide.{ℕ-discrete, decLe, decLt}
@@ -178,12 +177,9 @@ fill-more n from f v d row row′ h e e′ =
     (λ g l. withDot-filled f v (filled from f v d) g ∙ filled-join from f (f + 1) v d g h (omega arith))
 
 -- all is filled: f is at the stretch's end, or past the row's
-pub fill-done : (n from to f : ℕ) (v : Bool) (d : ℕ → Bool) (row : List ℕ) → from ≤ f → f ≤ max from to → (to ≤ f) ⊎ (n ≤ f / 8)
+pub fill-done : (n from to f : ℕ) (v : Bool) (d : ℕ → Bool) (row : List ℕ) → from ≤ f → f ≤ max from to → min to (8 * n) ≤ f
     → row ≡ rowOf n (filled from f v d) → row ≡ rowOf n (filled from to v d)
-fill-done n from to f v d row h l end e =
-    e
-    ∙ ⊎-elim (λ p. filled-same n from f to v d (λ g m a b. omega arith) (λ g m a b. omega arith))
-    (λ p. filled-same n from f to v d (λ g m a b. omega arith) (λ g m a b. omega arith)) end
+fill-done n from to f v d row h l end e = e ∙ filled-same n from f to v d (λ g m a b. omega arith) (λ g m a b. omega arith)
 
 -- filled from `from` to `mid`, and then from `mid` to `to`, a row is filled from `from` to `to`
 pub fill-join : (n from mid to : ℕ) (v : Bool) (d : ℕ → Bool) (row row′ : List ℕ) → from ≤ mid → mid ≤ to → row ≡ rowOf n (filled from mid v d)

@@ -1,11 +1,11 @@
--- Truth values that stand for statements, and rules that are computed over a table. Assumes nothing.
+-- Truth values that stand for statements, rules that are computed over a table, and statements about a range. Assumes nothing.
 use mathlib.Core.Path.{_≡_, refl, sym, _∙_, subst}
 use mathlib.Core.Bool.{Bool, true, false, _&&_, Bool·beq, true≢false, false≢true}
 use mathlib.Core.Logic.{⊎-elim}
 use Prim.Native.Nat.{ℕ, zero, suc, _<_, _≤_}
 use native.Mathlib.Nat.{not-suc-le-zero, eq-or-lt-of-le, le-of-suc-le-suc}
 use borrow.Author.Tests.{eq-eqb, lt-ltb, le-leb, eqb-true, leb-true, ltb-true}
-use lib.Dec.{T, eqb, leb, ltb}
+use lib.Dec.{T, eqb, leb, ltb, eqb→eq}
 
 -- ---- b says whether A holds
 
@@ -68,6 +68,10 @@ all-at (suc n) p t k h =
     ⊎-elim (λ e. subst (λ (x : ℕ). T (p x)) (sym e) (and-l (p n) (all n p) t)) (λ l. all-at n p (and-r (p n) (all n p) t) k l)
     (eq-or-lt-of-le (le-of-suc-le-suc h))
 
+-- two numbers that agree over a table
+pub eq-at : (n : ℕ) (p q : ℕ → ℕ) → T (all n (λ k. eqb (p k) (q k))) → (k : ℕ) → k < n → p k ≡ q k
+eq-at n p q t k h = eqb→eq (p k) (q k) (all-at n (λ k. eqb (p k) (q k)) t k h)
+
 T-true : (b : Bool) → T b → b ≡ true
 T-true true t = refl
 T-true false t = absurd t
@@ -78,3 +82,9 @@ same-at m n p q t j k h l =
     beq-is (p j k) (q j k) .holds
     (T-true (Bool·beq (p j k) (q j k))
     (all-at n (λ k. Bool·beq (p j k) (q j k)) (all-at m (λ j. all n (λ k. Bool·beq (p j k) (q j k))) t j h) k l))
+
+-- ---- a range
+
+-- what holds of f, and of the numbers after it below r, holds from f on
+pub from-next : (P : ℕ → Type 0) (f r : ℕ) → P f → ((g : ℕ) → suc f ≤ g → g < r → P g) → (g : ℕ) → f ≤ g → g < r → P g
+from-next P f r p h g a b = ⊎-elim (λ e. subst P e p) (λ l. h g l b) (eq-or-lt-of-le a)

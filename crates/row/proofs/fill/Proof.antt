@@ -1,7 +1,6 @@
 -- `row::fill` meets its contract. The loop's invariant: the dots from `from` up to f are filled, and the others are as they were.
 -- Assumes nothing.
 use mathlib.Core.Path.{_≡_}
-use mathlib.Core.Logic.{inl, inr}
 use Prim.Native.Nat.{_≤_, _-_, _/_, max}
 use native.Mathlib.Omega.{arith}
 use borrow.Author.Tests.{ltb-false}
@@ -46,8 +45,7 @@ returns : tie.Need-returns Inv-loop μ-loop
 returns c =
     let h = c .before .before in
     let past : length (h .loop .row) ≤ h .loop .f / 8 = ltb-false _ _ (c .if1 .left) in
-    let end : length (h .before .before .args .row .now) ≤ h .loop .f / 8 = omega (arith, length-is _ _ _ (h .loop .inv .2)) in
-    fill-done _ _ _ _ _ _ _ (h .loop .inv .0) (h .loop .inv .1) (inr end) (h .loop .inv .2)
+    fill-done _ _ _ _ _ _ _ (h .loop .inv .0) (h .loop .inv .1) (omega (arith, length-is _ _ _ (h .loop .inv .2))) (h .loop .inv .2)
 
 same-length-2 : tie.Need-same-length-2 Inv-loop μ-loop
 same-length-2 c = length-is _ _ _ (c .before .loop .inv .2)
@@ -55,7 +53,7 @@ same-length-2 c = length-is _ _ _ (c .before .loop .inv .2)
 returns-2 : tie.Need-returns-2 Inv-loop μ-loop
 returns-2 c =
     let h = c .before in
-    fill-done _ _ _ _ _ _ _ (h .loop .inv .0) (h .loop .inv .1) (inl (omega arith)) (h .loop .inv .2)
+    fill-done _ _ _ _ _ _ _ (h .loop .inv .0) (h .loop .inv .1) (omega arith) (h .loop .inv .2)
 
 pub fill-spec : {M : Type 1} → statement M
 fill-spec =
