@@ -1,0 +1,6 @@
+-- The proof of Demand 3, and the laws that it stands on.
+pub mod Rows
+pub mod Walk
+pub mod Calls
+pub mod Alike
+pub mod Demand3

@@ -1,0 +1,44 @@
+-- Laws of ranges and of rectangles: a line of one is a stretch. Assumes nothing.
+use mathlib.Core.Path.{_≡_, refl, ap, _∙_}
+use mathlib.Core.Bool.{Bool, true, false, cond, _&&_}
+use Prim.Native.Nat.{ℕ, _+_, _<_, _≤_}
+use native.Mathlib.Omega.{arith}
+use lib.Dec.{leb, ltb}
+use Rattle.row.specs.Stretches.{filled}
+use Rattle.row.proofs.Tests.{Is, leb-is, ltb-is, and-is, is-false}
+use Rattle.commands.specs.Commands.{rectangle}
+use Rattle.ink.specs.Masks.{within, masked}
+
+-- ---- ranges
+
+pub within-is : (min size x : ℕ) → Is (within min size x) ((min ≤ x) × (x < min + size))
+unfolding within
+within-is min size x = and-is (leb min x) (ltb x (min + size)) (leb-is min x) (ltb-is x (min + size))
+
+pub within-none : (min x : ℕ) → within min 0 x ≡ false
+within-none min x = is-false (within min 0 x) (within-is min 0 x) (λ p. omega arith)
+
+-- ---- rectangles
+
+module _ (sMin sSize fMin fSize s f : ℕ) where
+  -- a line that the rectangle has not
+  pub rectangle-off : within sMin sSize s ≡ false → masked (rectangle sMin sSize fMin fSize) s f ≡ false
+  unfolding masked
+  rectangle-off h = ap (λ (t : Bool). t && within fMin fSize f) h
+
+  -- a line that it has, with its dots given the value v
+  pub rectangle-line : (v : Bool) (d : ℕ → Bool) → within sMin sSize s ≡ true
+      → cond (masked (rectangle sMin sSize fMin fSize) s f) v (d f) ≡ filled fMin (fMin + fSize) v d f
+  unfolding masked within filled
+  rectangle-line v d h = ap (λ (t : Bool). cond (t && within fMin fSize f) v (d f)) h
+
+pub rectangle-empty-lines : (sMin fMin fSize s f : ℕ) → masked (rectangle sMin 0 fMin fSize) s f ≡ false
+rectangle-empty-lines sMin fMin fSize s f = rectangle-off sMin 0 fMin fSize s f (within-none sMin s)
+
+pub rectangle-empty-dots : (sMin sSize fMin s f : ℕ) → masked (rectangle sMin sSize fMin 0) s f ≡ false
+unfolding masked
+rectangle-empty-dots sMin sSize fMin s f = ap (λ (t : Bool). within sMin sSize s && t) (within-none fMin f) ∙ none (within sMin sSize s)
+  where
+    none : (t : Bool) → (t && false) ≡ false
+    none true = refl
+    none false = refl

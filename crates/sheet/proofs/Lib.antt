@@ -1,0 +1,3 @@
+-- The laws of sheets, for the proofs of this crate and of the crates above it. The files bear the names of those in specs/ whose definitions
+-- they are about.
+pub mod Refusals

@@ -1,0 +1,178 @@
+-- Laws of the table of refusals: its first line that holds, tables one after another, and what a sheet and load are that pass. Assumes nothing.
+use mathlib.Core.Path.{_≡_, refl, sym, ap, ap₂, _∙_}
+use mathlib.Core.Bool.{Bool, true, false, cond, not, _||_}
+use mathlib.Core.List.{List, [], _∷_, _++_, append-assoc}
+use Prim.Native.Nat.{ℕ, zero, suc, _+_, _*_, _%_, _<_, _≤_}
+use native.Mathlib.Omega.{arith}
+use borrow.Author.Tests.{ltb-false, eqb-false, eqb-true, not-false, lt-ltb, le-ltb, eq-eqb, ne-eqb}
+use lib.Dec.{ltb, eqb}
+use lib.ListN.{length, getD}
+use Rattle.words.specs.Words.{words}
+use Rattle.words.specs.Load.{loadCount}
+use Rattle.sheet.specs.Herald.{heraldOf, pageCount, rowLength}
+use Rattle.sheet.specs.Refusals.{Line, refuse, Verdict, fine, refused, first, outside, lengthTable, passwordTable, sizeTable, loadTable, pageTable, frontTable, front}
+use Rattle.sheet.specs.declared.Front.{Front}
+use Rattle.sheet.specs.declared.Front.the-variants.{Fine, Refused}
+use Rattle.sheet.specs.Answers.{told}
+
+-- ---- one line
+
+pub first-yes : (l : Line) (ls : List Line) → l .when ≡ true → first (l ∷ ls) ≡ refused (l .number) (l .place)
+unfolding first
+first-yes l ls e = ap (λ (t : Bool). cond t (refused (l .number) (l .place)) (first ls)) e
+
+pub first-no : (l : Line) (ls : List Line) → l .when ≡ false → first (l ∷ ls) ≡ first ls
+unfolding first
+first-no l ls e = ap (λ (t : Bool). cond t (refused (l .number) (l .place)) (first ls)) e
+
+-- the last line of a table
+pub first-last : (l : Line) → l .when ≡ false → first (l ∷ []) ≡ fine
+unfolding first
+first-last l e = first-no l [] e
+
+fine-not-refused : (n p : ℕ) → refused n p ≡ fine → ⊥
+fine-not-refused n p e = let z : _≡_ {A = ℕ} 0 1 = cc in omega arith
+
+pub first-cons : (l : Line) (ls : List Line) → first (l ∷ ls) ≡ fine → (l .when ≡ false) × (first ls ≡ fine)
+unfolding first
+first-cons l ls = go (l .when)
+  where
+    go : (t : Bool) → cond t (refused (l .number) (l .place)) (first ls) ≡ fine → (t ≡ false) × (first ls ≡ fine)
+    go true e = absurd (fine-not-refused (l .number) (l .place) e)
+    go false e = (refl, e)
+
+-- ---- tests of a table, by what the code has tested: a and b are its numbers for x and y
+
+pub less : {a b x y : ℕ} → a ≡ x → b ≡ y → a < b → ltb x y ≡ true
+less {a} {b} {x} {y} p q h = lt-ltb x y (omega arith)
+
+pub not-less : {a b x y : ℕ} → a ≡ x → b ≡ y → b ≤ a → ltb x y ≡ false
+not-less {a} {b} {x} {y} p q h = le-ltb x y (omega arith)
+
+pub other : {a b x y : ℕ} → a ≡ x → b ≡ y → (a ≡ b → ⊥) → not (eqb x y) ≡ true
+other {a} {b} {x} {y} p q h = ap not (ne-eqb x y (λ e. h (omega arith)))
+
+pub not-other : {a b x y : ℕ} → a ≡ x → b ≡ y → a ≡ b → not (eqb x y) ≡ false
+not-other {a} {b} {x} {y} p q h = ap not (eq-eqb x y (omega arith))
+
+-- r is the answer of `is_outside`
+pub outside-is : {a b x y : ℕ} {r t : Bool} → a ≡ x → b ≡ y → r ≡ outside 1 a b → r ≡ t → outside 1 x y ≡ t
+outside-is {a} {b} {x} {y} p q e h = sym (ap₂ (λ (u v : ℕ). outside 1 u v) p q) ∙ sym e ∙ h
+
+-- ---- two tables, one after the other
+
+-- the first verdict, unless it is fine
+abbrev pub orElse : Verdict → Verdict → Verdict
+orElse fine v = v
+orElse (refused n p) v = refused n p
+
+pub first-append : (a b : List Line) → first (a ++ b) ≡ orElse (first a) (first b)
+unfolding first
+first-append [] b = refl
+first-append (l ∷ ls) b = go (l .when) (first-append ls b)
+  where
+    go : (t : Bool) → first (ls ++ b) ≡ orElse (first ls) (first b)
+        → cond t (refused (l .number) (l .place)) (first (ls ++ b)) ≡ orElse (cond t (refused (l .number) (l .place)) (first ls)) (first b)
+    go true e = refl
+    go false e = e
+
+pub first-fine : (a b : List Line) → first a ≡ fine → first (a ++ b) ≡ first b
+first-fine a b e = first-append a b ∙ ap (λ (v : Verdict). orElse v (first b)) e
+
+pub first-refused : (a b : List Line) (n p : ℕ) → first a ≡ refused n p → first (a ++ b) ≡ refused n p
+first-refused a b n p e = first-append a b ∙ ap (λ (v : Verdict). orElse v (first b)) e
+
+pub first-append-fine : (a b : List Line) → first (a ++ b) ≡ fine → (first a ≡ fine) × (first b ≡ fine)
+first-append-fine a b e = go (first a) (sym (first-append a b) ∙ e)
+  where
+    go : (v : Verdict) → orElse v (first b) ≡ fine → (v ≡ fine) × (first b ≡ fine)
+    go fine e = (refl, e)
+    go (refused n p) e = absurd (fine-not-refused n p e)
+
+-- ---- tables one after another, each tested by a call that answers r
+
+pub passed : (a b : List Line) (r : Front) → r ≡ Fine → told r ≡ first a → first (a ++ b) ≡ first b
+passed a b r q e = first-fine a b (sym e ∙ ap told q)
+
+pub stopped : (a b : List Line) (r : Front) (n p : ℕ) → r ≡ Refused n p → told r ≡ first a → first (a ++ b) ≡ told r
+stopped a b r n p q e = first-refused a b n p (sym e ∙ ap told q) ∙ sym (ap told q)
+
+-- the tables of the front, from the first on
+pub front-tables : (sheet load : List ℕ)
+    → front sheet load
+    ≡ first
+    (lengthTable (length sheet) (length load)
+    ++ (passwordTable (words sheet)
+    ++ (sizeTable (heraldOf (words sheet)) ++ (loadTable (heraldOf (words sheet)) load ++ pageTable (pageCount (words sheet))))))
+unfolding front frontTable
+front-tables sheet load = simp append-assoc
+
+-- ---- what passes
+
+pub outside-false : (low high x : ℕ) → outside low high x ≡ false → (low ≤ x) × (x ≤ high)
+outside-false low high x e = (ltb-false x low (left (ltb x low) (ltb high x) e), ltb-false high x (right (ltb x low) (ltb high x) e))
+  where
+    left : (s t : Bool) → (s || t) ≡ false → s ≡ false
+    left true t e = e
+    left false t e = refl
+
+    right : (s t : Bool) → (s || t) ≡ false → t ≡ false
+    right true true e = e
+    right true false e = refl
+    right false t e = e
+
+-- where a table's verdict is fine, line i does not hold
+pub line-no : (ls : List Line) → first ls ≡ fine → (i : ℕ) → getD ls i (refuse 0 0 false) .when ≡ false
+line-no [] e i = refl
+line-no (l ∷ ls) e zero = first-cons l ls e .0
+line-no (l ∷ ls) e (suc i) = line-no ls (first-cons l ls e .1) i
+
+-- what the walk knows of a sheet and load that nothing is wrong with before it
+pub record FrontFine (sheet load : List ℕ) : Type 0 where
+  pub sheet-even : length sheet % 2 ≡ 0
+  pub load-even : length load % 2 ≡ 0
+  pub sheet-length : length sheet ≤ 16777216
+  pub load-length : length load ≤ 16777216
+  pub sheet-words : 12 ≤ length (words sheet)
+  pub lines-low : 1 ≤ heraldOf (words sheet) .imageSSize
+  pub lines-high : heraldOf (words sheet) .imageSSize ≤ 32768
+  pub dots-low : 1 ≤ heraldOf (words sheet) .imageFSize
+  pub dots-high : heraldOf (words sheet) .imageFSize ≤ 32768
+  pub band-low : 0 < heraldOf (words sheet) .bandSSize
+  pub band-high : heraldOf (words sheet) .bandSSize ≤ heraldOf (words sheet) .imageSSize
+  pub band-bytes : heraldOf (words sheet) .bandSSize * rowLength (heraldOf (words sheet) .imageFSize) ≤ 65536
+  pub copies-low : 1 ≤ heraldOf (words sheet) .copies
+  pub load-count : 2 + loadCount load ≡ length (words load)
+  pub load-limit : loadCount load ≤ heraldOf (words sheet) .maxLoadWords
+  pub pages-low : 0 < pageCount (words sheet)
+
+pub front-fine : (sheet load : List ℕ) → front sheet load ≡ fine → FrontFine sheet load
+unfolding front frontTable lengthTable passwordTable sizeTable loadTable pageTable
+front-fine sheet load e =
+    let no = line-no (frontTable sheet load) e in
+    let ws = words sheet in
+    let h = heraldOf ws in
+    let lines = outside-false 1 32768 (h .imageSSize) (no 7) in
+    let dots = outside-false 1 32768 (h .imageFSize) (no 8) in
+    let band = outside-false 1 (h .imageSSize) (h .bandSSize) (no 9) in
+    let sheet-odd = eqb-false (length sheet % 2) 1 (no 0) in
+    let load-odd = eqb-false (length load % 2) 1 (no 1) in
+    let pages = eqb-false (pageCount ws) 0 (no 15) in
+    record {
+      sheet-even = omega arith;
+      load-even = omega arith;
+      sheet-length = ltb-false 16777216 (length sheet) (no 2);
+      load-length = ltb-false 16777216 (length load) (no 3);
+      sheet-words = ltb-false (length ws) 12 (no 4);
+      lines-low = lines .0;
+      lines-high = lines .1;
+      dots-low = dots .0;
+      dots-high = dots .1;
+      band-low = band .0;
+      band-high = band .1;
+      band-bytes = ltb-false 65536 (h .bandSSize * rowLength (h .imageFSize)) (no 11);
+      copies-low = ltb-false (h .copies) 1 (no 10);
+      load-count = eqb-true (2 + loadCount load) (length (words load)) (not-false _ (no 13));
+      load-limit = ltb-false (h .maxLoadWords) (loadCount load) (no 14);
+      pages-low = omega arith;
+    }
