@@ -14,8 +14,8 @@ use lib.Seq.{drop-drop}
 use Rattle.words.specs.Words.{words, at, longAt}
 use Rattle.words.specs.Parts.{partOf}
 use Rattle.words.specs.Load.{loadWords}
-use Rattle.words.specs.Arrays.{arrayExtent, samplesIn, tileIn, array-cases}
-use Rattle.words.specs.Groups.{groupExtent, runsIn, group-cases}
+use Rattle.words.specs.Arrays.{arrayExtent, array-cases}
+use Rattle.words.specs.Groups.{groupExtent, group-cases}
 use Rattle.words.proofs.Words.{length-words, at-drop}
 use Rattle.words.proofs.Arrays.{array-fits}
 use Rattle.words.proofs.Groups.{group-fits}
@@ -121,9 +121,9 @@ module _ {Extent : List ℕ → Option ℕ} (measure : Measure Extent) where
   sheet-there k ws t n e = enough k ws _ (reached k ws n e) ∙ ap (λ (o : Option ℕ). extended 6 o t) e
 
   -- its words are those of a part of the sheet, where `args` is the part from place b up to e
-  sheet-part : (sheet args : List ℕ) (b e k q n : ℕ) → args ≡ partOf sheet b e → b ≤ e → e ≤ length (words sheet) → b + k ≡ q
+  sheet-part : (sheet args : List ℕ) (b e k q n : ℕ) → args ≡ partOf sheet b e → e ≤ length (words sheet) → b + k ≡ q
       → Extent (drop k (words args)) ≡ some n → words (partOf sheet q (q + n)) ≡ take n (drop k (words args))
-  sheet-part sheet args b e k q n a h l s x =
+  sheet-part sheet args b e k q n a l s x =
       part-within sheet b e k q n l s (subst (λ (r : List ℕ). n ≤ length (drop k (words r))) a (measure .fits (drop k (words args)) n x))
       ∙ ap (λ (r : List ℕ). take n (drop k (words r))) (sym a)
 
@@ -165,10 +165,10 @@ samples-past ws x = sheet-past arrays 2 ws _ x
 -- `args` are the words after the code word at place p, up to the band's end e
 module _ (sheet args : List ℕ) (p e : ℕ) (h : p < e) (l : e ≤ length (words sheet)) (a : args ≡ partOf sheet (p + 1) e) where
   pub runs-there : {sMin : ℕ} (n : ℕ) → sMin ≡ at (words args) 0 → groupExtent (drop 1 (words args)) ≡ some n
-      → runsFrom (words args) ≡ taken (paint (runs sMin (runsIn (words (partOf sheet (p + 2) (p + 2 + n)))))) (1 + n)
+      → runsFrom (words args) ≡ taken (paint (runs sMin (words (partOf sheet (p + 2) (p + 2 + n))))) (1 + n)
   unfolding runsFrom
   runs-there n m x =
-      let part = sheet-part groups sheet args (p + 1) e 1 (p + 2) n a (omega arith) l (omega arith) x in
+      let part = sheet-part groups sheet args (p + 1) e 1 (p + 2) n a l (omega arith) x in
       sheet-there groups 1 (words args) _ n x ∙ rw (m, part) refl
 
   -- the group ends in the band
@@ -176,10 +176,10 @@ module _ (sheet args : List ℕ) (p e : ℕ) (h : p < e) (l : e ≤ length (word
   runs-end n x = sheet-end groups sheet args (p + 1) e 1 (p + 2) n a (omega arith) l (omega arith) x
 
   pub samples-there : {sMin fMin : ℕ} (n : ℕ) → sMin ≡ at (words args) 0 → fMin ≡ at (words args) 1 → arrayExtent (drop 2 (words args)) ≡ some n
-      → samplesFrom (words args) ≡ taken (paint (samples sMin fMin (samplesIn (words (partOf sheet (p + 3) (p + 3 + n)))))) (2 + n)
+      → samplesFrom (words args) ≡ taken (paint (samples sMin fMin (words (partOf sheet (p + 3) (p + 3 + n))))) (2 + n)
   unfolding samplesFrom
   samples-there n m f x =
-      let part = sheet-part arrays sheet args (p + 1) e 2 (p + 3) n a (omega arith) l (omega arith) x in
+      let part = sheet-part arrays sheet args (p + 1) e 2 (p + 3) n a l (omega arith) x in
       sheet-there arrays 2 (words args) _ n x ∙ rw (m, f, part) refl
 
   -- the array ends in the band
@@ -194,7 +194,7 @@ module _ (load ws : List ℕ) (v : ℕ) (h : v ≡ longAt ws 0) where
   load-runs-past l x = load-measured groups 3 load ws v (longAt ws 0) _ none l h x
 
   pub load-runs-there : {sMin : ℕ} (n : ℕ) → sMin ≡ at ws 2 → 3 ≤ length ws → groupExtent (drop (2 + v) (words load)) ≡ some n
-      → loadRunsFrom (loadWords load) ws ≡ taken (paint (runs sMin (runsIn (words (partOf load (2 + v) (2 + v + n)))))) 3
+      → loadRunsFrom (loadWords load) ws ≡ taken (paint (runs sMin (words (partOf load (2 + v) (2 + v + n))))) 3
   unfolding loadRunsFrom
   load-runs-there n m l x =
       let part = load-part groups load v (longAt ws 0) n h x in
@@ -205,7 +205,7 @@ module _ (load ws : List ℕ) (v : ℕ) (h : v ≡ longAt ws 0) where
   load-samples-past l x = load-measured arrays 4 load ws v (longAt ws 0) _ none l h x
 
   pub load-samples-there : {sMin fMin : ℕ} (n : ℕ) → sMin ≡ at ws 2 → fMin ≡ at ws 3 → 4 ≤ length ws → arrayExtent (drop (2 + v) (words load)) ≡ some n
-      → loadSamplesFrom (loadWords load) ws ≡ taken (paint (samples sMin fMin (samplesIn (words (partOf load (2 + v) (2 + v + n)))))) 4
+      → loadSamplesFrom (loadWords load) ws ≡ taken (paint (samples sMin fMin (words (partOf load (2 + v) (2 + v + n))))) 4
   unfolding loadSamplesFrom
   load-samples-there n m f l x =
       let part = load-part arrays load v (longAt ws 0) n h x in
@@ -232,7 +232,7 @@ module _ (load ws : List ℕ) (v mode : ℕ) (h : v ≡ longAt ws 1) (l : 3 ≤ 
   -- after the tests on its words, the tile's array is measured
   tile-measured : (x : Option ℕ) → arrayExtent (drop (2 + v + 3) (words load)) ≡ x
       → tileFrom (loadWords load) ws
-      ≡ extended 9 x (λ n. refuseIf (sideless (tileAt load ws)) 9 (taken (tiled (eqb (at ws 0) 1) (tileIn (take (3 + n) (tileAt load ws)))) 3))
+      ≡ extended 9 x (λ n. refuseIf (sideless (tileAt load ws)) 9 (taken (tiled (eqb (at ws 0) 1) (take (3 + n) (tileAt load ws))) 3))
   unfolding tileFrom
   tile-measured x e = rw (le-leb 3 (length ws) l, le-ltb 1 (at ws 0) (omega arith), ← tile-from 3, e) refl
 
@@ -261,7 +261,7 @@ module _ (load ws : List ℕ) (v mode : ℕ) (h : v ≡ longAt ws 1) (l : 3 ≤ 
 
     -- it has both
     pub tile-there : {dots : ℕ} → (lines ≡ 0 → ⊥) → dots ≡ at (words load) (2 + v + 4) → (dots ≡ 0 → ⊥)
-        → tileFrom (loadWords load) ws ≡ taken (tiled (eqb mode 1) (tileIn (words (partOf load (2 + v) (2 + v + 3 + n))))) 3
+        → tileFrom (loadWords load) ws ≡ taken (tiled (eqb mode 1) (words (partOf load (2 + v) (2 + v + 3 + n)))) 3
     tile-there s d t =
         tile-measured (some n) x
         ∙ rw (ne-eqb _ 0 (λ y. s (w ∙ tile-word 3 ∙ y)), ne-eqb _ 0 (λ y. t (d ∙ tile-word 4 ∙ y)), ← m, tile-part) refl

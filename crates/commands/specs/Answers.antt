@@ -6,8 +6,6 @@ use mathlib.Core.List.{List, [], _∷_}
 use Prim.Native.Nat.{ℕ, suc, _+_}
 use Rattle.words.specs.Words.{words, bytesOf}
 use Rattle.words.specs.Parts.{partOf}
-use Rattle.words.specs.Arrays.{samplesIn, tileIn}
-use Rattle.words.specs.Groups.{runsIn, linesIn}
 use Rattle.commands.specs.Commands.{Command, priority, ink, clear, paint, rectangle, trapezoid, runs, samples, opaque, transparent, tiled, exampleTile, Taken, taken, broken}
 use Rattle.commands.specs.declared.Command as code
 use Rattle.commands.specs.declared.Command.the-variants.{Priority, Ink, Clear, Tile, Rectangle, Trapezoid, Runs, LoadRuns, Samples, LoadSamples}
@@ -27,18 +25,18 @@ partFor sheet load (LoadRuns sMin from to) = partOf load from to
 partFor sheet load (Samples sMin fMin from to) = partOf sheet from to
 partFor sheet load (LoadSamples sMin fMin from to) = partOf load from to
 
--- the command itself, read from the words that it names
+-- the command itself, with the words that it names
 unfoldable pub commandOf : List ℕ → List ℕ → code.Command → Command
 commandOf sheet load (Priority value) = priority value
 commandOf sheet load Ink = ink
 commandOf sheet load Clear = clear
-commandOf sheet load (Tile see from to) = tiled see (tileIn (words (partOf load from to)))
+commandOf sheet load (Tile see from to) = tiled see (words (partOf load from to))
 commandOf sheet load (Rectangle sMin sSize fMin fSize) = paint (rectangle sMin sSize fMin fSize)
 commandOf sheet load (Trapezoid sMin sSize fMin fSize fMinLast fSizeLast) = paint (trapezoid sMin sSize fMin fSize fMinLast fSizeLast)
-commandOf sheet load (Runs sMin from to) = paint (runs sMin (runsIn (words (partOf sheet from to))))
-commandOf sheet load (LoadRuns sMin from to) = paint (runs sMin (runsIn (words (partOf load from to))))
-commandOf sheet load (Samples sMin fMin from to) = paint (samples sMin fMin (samplesIn (words (partOf sheet from to))))
-commandOf sheet load (LoadSamples sMin fMin from to) = paint (samples sMin fMin (samplesIn (words (partOf load from to))))
+commandOf sheet load (Runs sMin from to) = paint (runs sMin (words (partOf sheet from to)))
+commandOf sheet load (LoadRuns sMin from to) = paint (runs sMin (words (partOf load from to)))
+commandOf sheet load (Samples sMin fMin from to) = paint (samples sMin fMin (words (partOf sheet from to)))
+commandOf sheet load (LoadSamples sMin fMin from to) = paint (samples sMin fMin (words (partOf load from to)))
 
 -- A command with the place after it, or a refusal's number and place
 pub data Placed : Type 0 where
@@ -87,11 +85,11 @@ pub record AnswerCases : Type 0 where
   pub transparent-is : commandOf [] tileFile (Tile true 0 6) ≡ transparent exampleTile
   pub rectangle-is : commandOf inSheet inLoad (Rectangle 1 2 3 4) ≡ paint (rectangle 1 2 3 4)
   pub trapezoid-is : commandOf inSheet inLoad (Trapezoid 1 2 3 4 5 6) ≡ paint (trapezoid 1 2 3 4 5 6)
-  pub runs-is : commandOf inSheet [] (Runs 9 0 3) ≡ paint (runs 9 (record { line = 0; fMin = 4; fSize = 2 } ∷ []))
-  pub load-runs-is : commandOf [] inSheet (LoadRuns 9 0 3) ≡ paint (runs 9 (record { line = 0; fMin = 4; fSize = 2 } ∷ []))
-  pub samples-is : commandOf inSheet [] (Samples 8 7 0 3) ≡ paint (samples 8 7 (record { sSize = 1; fSize = 4; lines = 0x8002 ∷ [] }))
-  pub load-samples-is : commandOf [] inSheet (LoadSamples 8 7 0 3) ≡ paint (samples 8 7 (record { sSize = 1; fSize = 4; lines = 0x8002 ∷ [] }))
+  pub runs-is : commandOf inSheet [] (Runs 9 0 3) ≡ paint (runs 9 (1 ∷ 4 ∷ 0x8002 ∷ []))
+  pub load-runs-is : commandOf [] inSheet (LoadRuns 9 0 3) ≡ paint (runs 9 (1 ∷ 4 ∷ 0x8002 ∷ []))
+  pub samples-is : commandOf inSheet [] (Samples 8 7 0 3) ≡ paint (samples 8 7 (1 ∷ 4 ∷ 0x8002 ∷ []))
+  pub load-samples-is : commandOf [] inSheet (LoadSamples 8 7 0 3) ≡ paint (samples 8 7 (1 ∷ 4 ∷ 0x8002 ∷ []))
 
 pub answer-cases : AnswerCases
-unfolding partFor commandOf partOf words bytesOf samplesIn tileIn runsIn linesIn
+unfolding partFor commandOf partOf words bytesOf
 answer-cases = search

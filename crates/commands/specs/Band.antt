@@ -2,8 +2,8 @@
 use mathlib.Core.Path.{_≡_}
 use mathlib.Core.List.{List, [], _∷_}
 use Prim.Native.Nat.{ℕ, zero, suc, _+_}
-use Rattle.words.specs.Arrays.{samplesIn, tileIn, arrayExtent}
-use Rattle.words.specs.Groups.{linesIn, runsIn, linesExtent, groupExtent}
+use Rattle.words.specs.Arrays.{arrayExtent}
+use Rattle.words.specs.Groups.{linesExtent, groupExtent}
 use Rattle.commands.specs.Commands.{Command, priority, ink, clear, opaque, transparent, paint, rectangle, Taken, taken, broken, command, priorityFrom, tileFrom, rectangleFrom, trapezoidFrom, runsFrom, loadRunsFrom, samplesFrom, loadSamplesFrom}
 
 -- a band's commands, or a refusal: its number, and its place counted from the band's first command
@@ -51,5 +51,5 @@ pub record BandCases : Type 0 where
   pub first-fault : readBand [] (2 ∷ 99 ∷ 6 ∷ []) ≡ refusedAt 7 1
 
 pub band-cases : BandCases
-unfolding readBand readFrom command priorityFrom tileFrom rectangleFrom trapezoidFrom runsFrom loadRunsFrom samplesFrom loadSamplesFrom arrayExtent samplesIn tileIn linesExtent groupExtent linesIn runsIn
+unfolding readBand readFrom command priorityFrom tileFrom rectangleFrom trapezoidFrom runsFrom loadRunsFrom samplesFrom loadSamplesFrom arrayExtent linesExtent groupExtent
 band-cases = search

@@ -7,23 +7,24 @@ use Prim.Native.Nat.{ℕ, _+_}
 use lib.Dec.{leb, ltb, eqb}
 use lib.ListN.{length, take, drop}
 use Rattle.words.specs.Words.{at, longAt}
-use Rattle.words.specs.Arrays.{Samples, samplesIn, Tile, tileIn, arrayExtent}
-use Rattle.words.specs.Groups.{Run, runsIn, linesIn, linesExtent, groupExtent}
+use Rattle.words.specs.Arrays.{arrayExtent}
+use Rattle.words.specs.Groups.{linesExtent, groupExtent}
 
 -- ---- what a command is
 
+-- run groups, sample arrays and tiles are the words that hold them
 pub data Mask : Type 0 where
   rectangle : (sMin sSize fMin fSize : ℕ) → Mask
   trapezoid : (sMin sSize fMin fSize fMinLast fSizeLast : ℕ) → Mask
-  runs : (sMin : ℕ) → List Run → Mask
-  samples : (sMin fMin : ℕ) → Samples → Mask
+  runs : (sMin : ℕ) → (group : List ℕ) → Mask
+  samples : (sMin fMin : ℕ) → (array : List ℕ) → Mask
 
 pub data Command : Type 0 where
   priority : ℕ → Command
   ink : Command
   clear : Command
-  opaque : Tile → Command
-  transparent : Tile → Command
+  opaque : (tile : List ℕ) → Command
+  transparent : (tile : List ℕ) → Command
   paint : Mask → Command
 
 -- A command is taken whole, with the number of words after its code word; or it is refused, with a number and the offset of its place from the code word
@@ -54,7 +55,7 @@ unfoldable pub priorityFrom : ℕ → List ℕ → Taken
 priorityFrom now args = whole 2 args (refuseIf (ltb 255 (at args 1)) 8 (refuseIf (ltb (longAt args 0) now) 8 (taken (priority (longAt args 0)) 2)))
 
 -- 4: 0 opaque or 1 transparent, long address; the tile may not run past the load, and no side of it is 0
-abbrev pub tiled : Bool → Tile → Command
+abbrev pub tiled : Bool → List ℕ → Command
 tiled t tile = cond t (transparent tile) (opaque tile)
 
 abbrev pub sideless : List ℕ → Bool
@@ -65,7 +66,7 @@ tileFrom load args =
     let tile = drop (longAt args 1) load in
     whole 3 args (refuseIf (ltb 1 (at args 0)) 8
     (extended 9 (arrayExtent (drop 3 tile)) (λ n. refuseIf (sideless tile) 9
-    (taken (tiled (eqb (at args 0) 1) (tileIn (take (3 + n) tile))) 3))))
+    (taken (tiled (eqb (at args 0) 1) (take (3 + n) tile)) 3))))
 
 -- 5: sMin, sSize, fMin, fSize
 unfoldable pub rectangleFrom : List ℕ → Taken
@@ -81,25 +82,25 @@ trapezoidFrom args =
 unfoldable pub runsFrom : List ℕ → Taken
 runsFrom args =
     let group = drop 1 args in
-    whole 1 args (extended 6 (groupExtent group) (λ n. taken (paint (runs (at args 0) (runsIn (take n group)))) (1 + n)))
+    whole 1 args (extended 6 (groupExtent group) (λ n. taken (paint (runs (at args 0) (take n group))) (1 + n)))
 
 -- 8: long address, sMin
 unfoldable pub loadRunsFrom : List ℕ → List ℕ → Taken
 loadRunsFrom load args =
     let group = drop (longAt args 0) load in
-    whole 3 args (extended 9 (groupExtent group) (λ n. taken (paint (runs (at args 2) (runsIn (take n group)))) 3))
+    whole 3 args (extended 9 (groupExtent group) (λ n. taken (paint (runs (at args 2) (take n group))) 3))
 
 -- 9: sMin, fMin, sample array
 unfoldable pub samplesFrom : List ℕ → Taken
 samplesFrom args =
     let array = drop 2 args in
-    whole 2 args (extended 6 (arrayExtent array) (λ n. taken (paint (samples (at args 0) (at args 1) (samplesIn (take n array)))) (2 + n)))
+    whole 2 args (extended 6 (arrayExtent array) (λ n. taken (paint (samples (at args 0) (at args 1) (take n array))) (2 + n)))
 
 -- 10: long address, sMin, fMin
 unfoldable pub loadSamplesFrom : List ℕ → List ℕ → Taken
 loadSamplesFrom load args =
     let array = drop (longAt args 0) load in
-    whole 4 args (extended 9 (arrayExtent array) (λ n. taken (paint (samples (at args 2) (at args 3) (samplesIn (take n array)))) 4))
+    whole 4 args (extended 9 (arrayExtent array) (λ n. taken (paint (samples (at args 2) (at args 3) (take n array))) 4))
 
 -- by its code word; in one command 7, 6, 8, 9
 unfoldable pub command : List ℕ → ℕ → ℕ → List ℕ → Taken
@@ -127,8 +128,8 @@ commandIn load now (code ∷ args) = command load now code args
 abbrev pub exampleLoad : List ℕ
 exampleLoad = 1 ∷ 2 ∷ 3 ∷ 1 ∷ 4 ∷ 0xA000 ∷ 1 ∷ 4 ∷ 0x8002 ∷ 1 ∷ 4 ∷ 0xF000 ∷ []
 
-abbrev pub exampleTile : Tile
-exampleTile = record { phase = 1; sMin = 2; fMin = 3; array = record { sSize = 1; fSize = 4; lines = 0xA000 ∷ [] } }
+abbrev pub exampleTile : List ℕ
+exampleTile = 1 ∷ 2 ∷ 3 ∷ 1 ∷ 4 ∷ 0xA000 ∷ []
 
 pub record CommandCases : Type 0 where
   pub priority-up : commandIn [] 5 (1 ∷ 5 ∷ 0 ∷ 99 ∷ []) ≡ taken (priority 5) 2
@@ -152,15 +153,15 @@ pub record CommandCases : Type 0 where
   pub trapezoid-cut : commandIn [] 0 (6 ∷ 1 ∷ 1 ∷ 3 ∷ 4 ∷ 5 ∷ []) ≡ broken 6 0
   pub trapezoid-one-row : commandIn [] 0 (6 ∷ 1 ∷ 1 ∷ 3 ∷ 4 ∷ 5 ∷ 6 ∷ []) ≡ broken 8 0
   pub trapezoid-no-rows : commandIn [] 0 (6 ∷ 1 ∷ 0 ∷ 3 ∷ 4 ∷ 5 ∷ 6 ∷ []) ≡ taken (paint (trapezoid 1 0 3 4 5 6)) 6
-  pub runs-read : commandIn [] 0 (7 ∷ 9 ∷ 1 ∷ 4 ∷ 0x8002 ∷ 99 ∷ []) ≡ taken (paint (runs 9 (record { line = 0; fMin = 4; fSize = 2 } ∷ []))) 4
+  pub runs-read : commandIn [] 0 (7 ∷ 9 ∷ 1 ∷ 4 ∷ 0x8002 ∷ 99 ∷ []) ≡ taken (paint (runs 9 (1 ∷ 4 ∷ 0x8002 ∷ []))) 4
   pub runs-cut : commandIn [] 0 (7 ∷ 9 ∷ 1 ∷ 4 ∷ []) ≡ broken 6 0
   pub runs-no-size : commandIn [] 0 (7 ∷ 9 ∷ []) ≡ broken 6 0
-  pub load-runs-read : commandIn exampleLoad 0 (8 ∷ 6 ∷ 0 ∷ 9 ∷ []) ≡ taken (paint (runs 9 (record { line = 0; fMin = 4; fSize = 2 } ∷ []))) 3
+  pub load-runs-read : commandIn exampleLoad 0 (8 ∷ 6 ∷ 0 ∷ 9 ∷ []) ≡ taken (paint (runs 9 (1 ∷ 4 ∷ 0x8002 ∷ []))) 3
   pub load-runs-cut : commandIn exampleLoad 0 (8 ∷ 6 ∷ 0 ∷ []) ≡ broken 6 0
   pub load-runs-past : commandIn exampleLoad 0 (8 ∷ 12 ∷ 0 ∷ 9 ∷ []) ≡ broken 9 0
-  pub samples-read : commandIn [] 0 (9 ∷ 8 ∷ 7 ∷ 1 ∷ 4 ∷ 0xF000 ∷ 99 ∷ []) ≡ taken (paint (samples 8 7 (record { sSize = 1; fSize = 4; lines = 0xF000 ∷ [] }))) 5
+  pub samples-read : commandIn [] 0 (9 ∷ 8 ∷ 7 ∷ 1 ∷ 4 ∷ 0xF000 ∷ 99 ∷ []) ≡ taken (paint (samples 8 7 (1 ∷ 4 ∷ 0xF000 ∷ []))) 5
   pub samples-cut : commandIn [] 0 (9 ∷ 8 ∷ 7 ∷ 1 ∷ 17 ∷ 0xF000 ∷ []) ≡ broken 6 0
-  pub load-samples-read : commandIn exampleLoad 0 (10 ∷ 9 ∷ 0 ∷ 8 ∷ 7 ∷ []) ≡ taken (paint (samples 8 7 (record { sSize = 1; fSize = 4; lines = 0xF000 ∷ [] }))) 4
+  pub load-samples-read : commandIn exampleLoad 0 (10 ∷ 9 ∷ 0 ∷ 8 ∷ 7 ∷ []) ≡ taken (paint (samples 8 7 (1 ∷ 4 ∷ 0xF000 ∷ []))) 4
   pub load-samples-cut : commandIn exampleLoad 0 (10 ∷ 9 ∷ 0 ∷ 8 ∷ []) ≡ broken 6 0
   pub load-samples-past : commandIn exampleLoad 0 (10 ∷ 10 ∷ 0 ∷ 8 ∷ 7 ∷ []) ≡ broken 9 0
   pub unknown : commandIn [] 0 (11 ∷ []) ≡ broken 7 0
@@ -169,7 +170,7 @@ pub record CommandCases : Type 0 where
   pub no-word : commandIn [] 0 [] ≡ broken 6 0
 
 pub command-cases : CommandCases
-unfolding commandIn command priorityFrom tileFrom rectangleFrom trapezoidFrom runsFrom loadRunsFrom samplesFrom loadSamplesFrom arrayExtent samplesIn tileIn linesExtent groupExtent linesIn runsIn
+unfolding commandIn command priorityFrom tileFrom rectangleFrom trapezoidFrom runsFrom loadRunsFrom samplesFrom loadSamplesFrom arrayExtent linesExtent groupExtent
 command-cases = search
 
 -- T3: a trapezoid of sSize 1 is refused with 8 at its code word, whatever its other words are

@@ -7,8 +7,8 @@ use lib.Dec.{leb, ltb, eqb}
 use lib.IntN.{ℤ, pos, _+ℤ_, _-ℤ_, _*ℤ_}
 use lib.Signed.{leZ, ltZ}
 use Rattle.words.specs.Words.{at}
-use Rattle.words.specs.Arrays.{Samples, lineWords}
-use Rattle.words.specs.Groups.{Run}
+use Rattle.words.specs.Arrays.{Samples, samplesIn, lineWords}
+use Rattle.words.specs.Groups.{Run, runsIn}
 use Rattle.commands.specs.Commands.{Mask, rectangle, trapezoid, runs, samples}
 
 -- a film: is dot f of line s 1?
@@ -45,8 +45,8 @@ masked (trapezoid sMin sSize fMin fSize fMinLast fSizeLast) s f =
     within sMin sSize s
     && leZ (edge fMin fMinLast (sSize - 1) (s - sMin)) (pos (f * (sSize - 1)))
     && ltZ (pos (f * (sSize - 1))) (edge (fMin + fSize) (fMinLast + fSizeLast) (sSize - 1) (s - sMin))
-masked (runs sMin rs) s f = leb sMin s && inRuns rs (s - sMin) f
-masked (samples sMin fMin a) s f = leb sMin s && leb fMin f && sample a (s - sMin) (f - fMin)
+masked (runs sMin group) s f = leb sMin s && inRuns (runsIn group) (s - sMin) f
+masked (samples sMin fMin array) s f = leb sMin s && leb fMin f && sample (samplesIn array) (s - sMin) (f - fMin)
 
 -- ---- worked cases
 
@@ -60,6 +60,8 @@ pub record MaskCases : Type 0 where
   pub edge-first : edge 3 0 2 0 ≡ pos 6
   pub edge-middle : edge 3 0 2 1 ≡ pos 3
   pub edge-last : edge 3 0 2 2 ≡ pos 0
+  -- from 0 to 3 over two lines: 3/2 on the line between
+  pub edge-rising : edge 0 3 2 1 ≡ pos 3
   pub rounded-up : masked (trapezoid 0 3 3 1 0 1) 1 2 ≡ true
   pub rounded-toward-zero : masked (trapezoid 0 3 3 1 0 1) 1 1 ≡ false
   pub high-bit-first : wordBit 0x8000 0 ≡ true

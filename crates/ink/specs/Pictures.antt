@@ -5,7 +5,8 @@ use mathlib.Core.List.{List, [], _∷_}
 use Prim.Native.Nat.{ℕ, zero, suc}
 use lib.Dec.{ltb}
 use Rattle.row.specs.Dots.{byteOf, rowOf}
-use Rattle.words.specs.Arrays.{Tile}
+use Rattle.words.specs.Arrays.{samplesIn, tileIn}
+use Rattle.words.specs.Groups.{linesIn, runsIn}
 use Rattle.commands.specs.Commands.{rectangle, trapezoid, runs, samples, Command, priority, ink, clear, opaque, transparent, paint}
 use Rattle.sheet.specs.Herald.{rowLength}
 use Rattle.ink.specs.Masks.{Film, within, inRuns, sample, masked}
@@ -17,8 +18,8 @@ carryOut C [] I = I
 carryOut C (priority p ∷ cs) I = carryOut C cs I
 carryOut C (ink ∷ cs) I = carryOut (solid true) cs I
 carryOut C (clear ∷ cs) I = carryOut (solid false) cs I
-carryOut C (opaque t ∷ cs) I = carryOut (opaqueTile t) cs I
-carryOut C (transparent t ∷ cs) I = carryOut (transparentTile t) cs I
+carryOut C (opaque t ∷ cs) I = carryOut (opaqueTile (tileIn t)) cs I
+carryOut C (transparent t ∷ cs) I = carryOut (transparentTile (tileIn t)) cs I
 carryOut C (paint m ∷ cs) I = carryOut C cs (λ s f. painted C s f (masked m s f) (I s f))
 
 -- a band begins with all dots 0 and ink as colour
@@ -48,12 +49,12 @@ abbrev black : Command
 black = paint (rectangle 0 4 0 16)
 
 -- one line of two dots, 1 and 0, at 1, 2, one dot further for each line
-abbrev exampleTile : Tile
-exampleTile = record { phase = 1; sMin = 1; fMin = 2; array = record { sSize = 1; fSize = 2; lines = 0x8000 ∷ [] } }
+abbrev exampleTile : List ℕ
+exampleTile = 1 ∷ 1 ∷ 2 ∷ 1 ∷ 2 ∷ 0x8000 ∷ []
 
 -- two lines of three dots, 110 and 001 with padding bits set, at 1, 0
-abbrev twoLineTile : Tile
-twoLineTile = record { phase = 0; sMin = 1; fMin = 0; array = record { sSize = 2; fSize = 3; lines = 0xDFFF ∷ 0x3FFF ∷ [] } }
+abbrev twoLineTile : List ℕ
+twoLineTile = 0 ∷ 1 ∷ 0 ∷ 2 ∷ 3 ∷ 0xDFFF ∷ 0x3FFF ∷ []
 
 pub record PictureCases : Type 0 where
   -- R: lines 1 and 2, columns 1 to 3
@@ -66,13 +67,11 @@ pub record PictureCases : Type 0 where
   pub trapezoid-no-rows : four (paint (trapezoid 0 0 0 9 0 9) ∷ []) ≡ (0 ∷ 0 ∷ []) ∷ (0 ∷ 0 ∷ []) ∷ (0 ∷ 0 ∷ []) ∷ (0 ∷ 0 ∷ []) ∷ []
   pub trapezoid-from-a-point : rowsOf 16 0 3 (paint (trapezoid 0 3 0 0 0 4) ∷ []) ≡ (0 ∷ 0 ∷ []) ∷ (0xC0 ∷ 0 ∷ []) ∷ (0xF0 ∷ 0 ∷ []) ∷ []
   pub trapezoid-largest : four (paint (trapezoid 0 65535 0 65535 65535 65535) ∷ []) ≡ (0xFF ∷ 0xFF ∷ []) ∷ (0x3F ∷ 0xFF ∷ []) ∷ (0x1F ∷ 0xFF ∷ []) ∷ (0x0F ∷ 0xFF ∷ []) ∷ []
-  -- two runs of one line overlap; the other line has none of its dots; a run of no dots
-  pub runs-shifted :
-      four (paint (runs 1 (record { line = 0; fMin = 1; fSize = 3 } ∷ record { line = 0; fMin = 2; fSize = 4 } ∷ record { line = 1; fMin = 9; fSize = 0 } ∷ record { line = 2; fMin = 15; fSize = 9 } ∷ [])) ∷ [])
-      ≡ (0 ∷ 0 ∷ []) ∷ (0x7C ∷ 0 ∷ []) ∷ (0 ∷ 0 ∷ []) ∷ (0 ∷ 1 ∷ []) ∷ []
-  pub samples-padded : four (paint (samples 0 0 (record { sSize = 1; fSize = 4; lines = 0xFFFF ∷ 0xFFFF ∷ [] })) ∷ []) ≡ (0xF0 ∷ 0 ∷ []) ∷ (0 ∷ 0 ∷ []) ∷ (0 ∷ 0 ∷ []) ∷ (0 ∷ 0 ∷ []) ∷ []
-  pub samples-shifted : four (paint (samples 2 3 (record { sSize = 2; fSize = 17; lines = 0xA001 ∷ 0x8000 ∷ 0x5000 ∷ 0xFFFF ∷ [] })) ∷ []) ≡ (0 ∷ 0 ∷ []) ∷ (0 ∷ 0 ∷ []) ∷ (0x14 ∷ 0 ∷ []) ∷ (0x0A ∷ 0 ∷ []) ∷ []
-  pub samples-second-word : rowsOf 20 0 1 (paint (samples 0 0 (record { sSize = 1; fSize = 18; lines = 0x0001 ∷ 0x4000 ∷ [] })) ∷ []) ≡ (0 ∷ 1 ∷ 0x40 ∷ 0 ∷ []) ∷ []
+  -- two runs of line 0 overlap, the run of line 1 has no dots, and that of line 2 goes past the film
+  pub runs-shifted : four (paint (runs 1 (3 ∷ 1 ∷ 3 ∷ 2 ∷ 0x8004 ∷ 9 ∷ 0x8000 ∷ 15 ∷ 0x8009 ∷ [])) ∷ []) ≡ (0 ∷ 0 ∷ []) ∷ (0x7C ∷ 0 ∷ []) ∷ (0 ∷ 0 ∷ []) ∷ (0 ∷ 1 ∷ []) ∷ []
+  pub samples-padded : four (paint (samples 0 0 (1 ∷ 4 ∷ 0xFFFF ∷ 0xFFFF ∷ [])) ∷ []) ≡ (0xF0 ∷ 0 ∷ []) ∷ (0 ∷ 0 ∷ []) ∷ (0 ∷ 0 ∷ []) ∷ (0 ∷ 0 ∷ []) ∷ []
+  pub samples-shifted : four (paint (samples 2 3 (2 ∷ 17 ∷ 0xA001 ∷ 0x8000 ∷ 0x5000 ∷ 0xFFFF ∷ [])) ∷ []) ≡ (0 ∷ 0 ∷ []) ∷ (0 ∷ 0 ∷ []) ∷ (0x14 ∷ 0 ∷ []) ∷ (0x0A ∷ 0 ∷ []) ∷ []
+  pub samples-second-word : rowsOf 20 0 1 (paint (samples 0 0 (1 ∷ 18 ∷ 0x0001 ∷ 0x4000 ∷ [])) ∷ []) ≡ (0 ∷ 1 ∷ 0x40 ∷ 0 ∷ []) ∷ []
   -- an opaque tile clears where it is 0, above and left of its corner too; a transparent one never clears
   pub tile-opaque : four (black ∷ opaque exampleTile ∷ black ∷ []) ≡ (0 ∷ 0 ∷ []) ∷ (0x2A ∷ 0xAA ∷ []) ∷ (0x15 ∷ 0x55 ∷ []) ∷ (0x0A ∷ 0xAA ∷ []) ∷ []
   pub tile-transparent :
@@ -87,7 +86,7 @@ pub record PictureCases : Type 0 where
   pub later-lines : rowsOf 8 1 2 (paint (rectangle 2 1 0 1) ∷ []) ≡ (0 ∷ 0 ∷ []) ∷ (0x80 ∷ 0 ∷ []) ∷ []
 
 pub picture-cases : PictureCases
-unfolding rowsOf stretch rowBytes rowOf byteOf filmOf carryOut painted tileDot tileStart masked sample inRuns within
+unfolding rowsOf stretch rowBytes rowOf byteOf filmOf carryOut painted tileDot tileStart masked sample samplesIn tileIn inRuns runsIn linesIn within
 picture-cases =
     record {
       r = refl;

@@ -4,8 +4,8 @@ use mathlib.Core.List.{List, [], _∷_, _++_}
 use Prim.Native.Nat.{ℕ, _+_}
 use Rattle.words.specs.Words.{words, bytesOf}
 use Rattle.words.specs.Load.{loadCount, loadWords}
-use Rattle.words.specs.Arrays.{arrayExtent, samplesIn, tileIn}
-use Rattle.words.specs.Groups.{linesExtent, groupExtent, linesIn, runsIn}
+use Rattle.words.specs.Arrays.{arrayExtent}
+use Rattle.words.specs.Groups.{linesExtent, groupExtent}
 use Rattle.commands.specs.Commands.{command, priorityFrom, tileFrom, rectangleFrom, trapezoidFrom, runsFrom, loadRunsFrom, samplesFrom, loadSamplesFrom}
 use Rattle.commands.specs.Band.{Reading, read, refusedAt, readFrom, readBand}
 use Rattle.sheet.specs.Herald.{pageCount, bandCount}
@@ -79,5 +79,5 @@ pub record CheckCases : Type 0 where
   pub past-load : checked (start 4 4 ++ (1 ∷ 1 ∷ 4 ∷ 8 ∷ 1 ∷ 0 ∷ 2 ∷ [])) (3 ∷ 0 ∷ 1 ∷ 4 ∷ 0x8002 ∷ []) ≡ refused 9 14
 
 pub check-cases : CheckCases
-unfolding checkAnswer checkLayout front first lengthTable passwordTable sizeTable loadTable pageTable frontTable words bytesOf loadCount loadWords bandCount bandsThen pagesFrom readBand readFrom command priorityFrom tileFrom rectangleFrom trapezoidFrom runsFrom loadRunsFrom samplesFrom loadSamplesFrom arrayExtent samplesIn tileIn linesExtent groupExtent linesIn runsIn
+unfolding checkAnswer checkLayout front first lengthTable passwordTable sizeTable loadTable pageTable frontTable words bytesOf loadCount loadWords bandCount bandsThen pagesFrom readBand readFrom command priorityFrom tileFrom rectangleFrom trapezoidFrom runsFrom loadRunsFrom samplesFrom loadSamplesFrom arrayExtent linesExtent groupExtent
 check-cases = search

@@ -63,6 +63,8 @@ pub record LayoutCases : Type 0 where
       ≡ band 14 (3 ∷ []) (band 16 [] (band 18 (2 ∷ 3 ∷ []) (band 21 (2 ∷ []) (end 22 (9 ∷ [])))))
   pub third-band : reach 2 (pagesFrom 2 2 12 twoPages) ≡ found 18 (2 ∷ 3 ∷ [])
   pub no-fifth-band : reach 4 (pagesFrom 2 2 12 twoPages) ≡ nowhere
+  -- 2 lines in bands of 1: page 1 begins with the third band
+  pub numbering : bandIndex (0xAAAA ∷ 1 ∷ 0 ∷ 0 ∷ 0 ∷ 2 ∷ 16 ∷ 1 ∷ []) 1 0 ≡ 2
   pub page-count-missing : pagesFrom 2 1 12 [] ≡ bad 6 12
   pub wrong-band-count : pagesFrom 2 1 12 (3 ∷ []) ≡ bad 5 12
   pub band-count-missing : pagesFrom 2 1 12 (2 ∷ 0 ∷ []) ≡ band 14 [] (bad 6 14)
@@ -71,5 +73,5 @@ pub record LayoutCases : Type 0 where
   pub before-refusal : reach 0 (pagesFrom 2 1 12 (2 ∷ 0 ∷ 1 ∷ [])) ≡ found 14 []
 
 pub layout-cases : LayoutCases
-unfolding bandsThen pagesFrom reach
+unfolding bandsThen pagesFrom reach bandCount
 layout-cases = search
