@@ -19,18 +19,18 @@ use Rattle.words.specs.Groups.{groupExtent, group-cases}
 use Rattle.words.proofs.Words.{length-words, at-drop}
 use Rattle.words.proofs.Arrays.{array-fits}
 use Rattle.words.proofs.Groups.{group-fits}
-use Rattle.commands.specs.Commands.{Taken, taken, atCode, whole, extended, refuseIf, priority, paint, rectangle, trapezoid, runs, samples, tiled, sideless, OneRow, priorityFrom, tileFrom, rectangleFrom, trapezoidFrom, runsFrom, loadRunsFrom, samplesFrom, loadSamplesFrom, command, commandIn}
+use Rattle.commands.specs.Commands.{Taken, taken, nowhere, inBand, inLoad, atCode, needs, extended, refuseIf, priority, paint, rectangle, trapezoid, runs, samples, tiled, sideless, OneRow, priorityFrom, tileFrom, rectangleFrom, trapezoidFrom, runsFrom, loadRunsFrom, samplesFrom, loadSamplesFrom, command, commandIn}
 use Rattle.words.proofs.Parts.{part-length, part-first, part-taken, part-within}
 use Rattle.words.proofs.Load.{load-from}
 
 -- ---- the words after the code word
 
 -- too few
-pub too-few : (n : ℕ) (args : List ℕ) (t : Taken) → length args < n → whole n args t ≡ atCode 6
+pub too-few : (n : ℕ) (args : List ℕ) (t : Taken) → length args < n → needs n args t ≡ atCode 6
 too-few n args t h = rw (lt-leb n (length args) h) refl
 
 -- enough
-pub enough : (n : ℕ) (args : List ℕ) (t : Taken) → n ≤ length args → whole n args t ≡ t
+pub enough : (n : ℕ) (args : List ℕ) (t : Taken) → n ≤ length args → needs n args t ≡ t
 enough n args t h = rw (le-leb n (length args) h) refl
 
 -- ---- commands that name nothing in a file
@@ -49,15 +49,15 @@ module _ (ws : List ℕ) where
 
   -- it does not
   pub priority-read : (now : ℕ) {high value : ℕ} → 2 ≤ length ws → high ≡ at ws 1 → high ≤ 255 → value ≡ longAt ws 0 → now ≤ value
-      → priorityFrom now ws ≡ taken (priority value) 2
+      → priorityFrom now ws ≡ taken (priority value) nowhere 2
   unfolding priorityFrom
   priority-read now {high} {value} l w h v f =
       rw (le-leb 2 (length ws) l, le-ltb 255 (at ws 1) (omega arith), le-ltb (longAt ws 0) now (omega arith))
-      (ap (λ (x : ℕ). taken (priority x) 2) (sym v))
+      (ap (λ (x : ℕ). taken (priority x) nowhere 2) (sym v))
 
   -- a rectangle
   pub rectangle-read : {sMin sSize fMin fSize : ℕ} → sMin ≡ at ws 0 → sSize ≡ at ws 1 → fMin ≡ at ws 2 → fSize ≡ at ws 3 → 4 ≤ length ws
-      → rectangleFrom ws ≡ taken (paint (rectangle sMin sSize fMin fSize)) 4
+      → rectangleFrom ws ≡ taken (paint (rectangle sMin sSize fMin fSize)) nowhere 4
   unfolding rectangleFrom
   rectangle-read a b c d l = enough 4 ws _ l ∙ cc
 
@@ -69,7 +69,7 @@ module _ (ws : List ℕ) where
   -- of any other number of rows
   pub trapezoid-read : {sMin sSize fMin fSize fMinLast fSizeLast : ℕ} → sMin ≡ at ws 0 → sSize ≡ at ws 1 → fMin ≡ at ws 2 → fSize ≡ at ws 3
       → fMinLast ≡ at ws 4 → fSizeLast ≡ at ws 5 → 6 ≤ length ws → (sSize ≡ 1 → ⊥)
-      → trapezoidFrom ws ≡ taken (paint (trapezoid sMin sSize fMin fSize fMinLast fSizeLast)) 6
+      → trapezoidFrom ws ≡ taken (paint (trapezoid sMin sSize fMin fSize fMinLast fSizeLast)) nowhere 6
   unfolding trapezoidFrom
   trapezoid-read a b c d e f l h =
       rw (le-leb 6 (length ws) l, ne-eqb (at ws 1) 1 (λ x. h (b ∙ x))) (cc)
@@ -109,7 +109,7 @@ module _ {Extent : List ℕ → Option ℕ} (measure : Measure Extent) where
   room file q n e = omega (arith, measure .fits (drop q (words file)) n e, length-drop q (words file), length-words file)
 
   -- after k words of the sheet it runs past the band's end
-  sheet-past : (k : ℕ) (ws : List ℕ) (t : ℕ → Taken) → Extent (drop k ws) ≡ none → whole k ws (extended 6 (Extent (drop k ws)) t) ≡ atCode 6
+  sheet-past : (k : ℕ) (ws : List ℕ) (t : ℕ → Taken) → Extent (drop k ws) ≡ none → needs k ws (extended 6 (Extent (drop k ws)) t) ≡ atCode 6
   sheet-past k ws t e = rw e (go (leb k (length ws)))
     where
       go : (b : Bool) → cond b (atCode 6) (atCode 6) ≡ atCode 6
@@ -117,7 +117,7 @@ module _ {Extent : List ℕ → Option ℕ} (measure : Measure Extent) where
       go false = refl
 
   -- it is there
-  sheet-there : (k : ℕ) (ws : List ℕ) (t : ℕ → Taken) (n : ℕ) → Extent (drop k ws) ≡ some n → whole k ws (extended 6 (Extent (drop k ws)) t) ≡ t n
+  sheet-there : (k : ℕ) (ws : List ℕ) (t : ℕ → Taken) (n : ℕ) → Extent (drop k ws) ≡ some n → needs k ws (extended 6 (Extent (drop k ws)) t) ≡ t n
   sheet-there k ws t n e = enough k ws _ (reached k ws n e) ∙ ap (λ (o : Option ℕ). extended 6 o t) e
 
   -- its words are those of a part of the sheet, where `args` is the part from place b up to e
@@ -136,7 +136,7 @@ module _ {Extent : List ℕ → Option ℕ} (measure : Measure Extent) where
 
   -- at address v of the load: it is there, or it runs past the load's end
   load-measured : (k : ℕ) (load ws : List ℕ) (v a : ℕ) (t : ℕ → Taken) (o : Option ℕ) → k ≤ length ws → v ≡ a → Extent (drop (2 + v) (words load)) ≡ o
-      → whole k ws (extended 9 (Extent (drop a (loadWords load))) t) ≡ extended 9 o t
+      → needs k ws (extended 9 (Extent (drop a (loadWords load))) t) ≡ extended 9 o t
   load-measured k load ws v a t o l h e =
       enough k ws _ l ∙ ap (λ (x : Option ℕ). extended 9 x t) (sym (ap Extent (load-from load v a h)) ∙ e)
 
@@ -165,7 +165,7 @@ samples-past ws x = sheet-past arrays 2 ws _ x
 -- `args` are the words after the code word at place p, up to the band's end e
 module _ (sheet args : List ℕ) (p e : ℕ) (h : p < e) (l : e ≤ length (words sheet)) (a : args ≡ partOf sheet (p + 1) e) where
   pub runs-there : {sMin : ℕ} (n : ℕ) → sMin ≡ at (words args) 0 → groupExtent (drop 1 (words args)) ≡ some n
-      → runsFrom (words args) ≡ taken (paint (runs sMin (words (partOf sheet (p + 2) (p + 2 + n))))) (1 + n)
+      → runsFrom (words args) ≡ taken (paint (runs sMin (words (partOf sheet (p + 2) (p + 2 + n))))) (inBand 2) (1 + n)
   unfolding runsFrom
   runs-there n m x =
       let part = sheet-part groups sheet args (p + 1) e 1 (p + 2) n a l (omega arith) x in
@@ -176,7 +176,7 @@ module _ (sheet args : List ℕ) (p e : ℕ) (h : p < e) (l : e ≤ length (word
   runs-end n x = sheet-end groups sheet args (p + 1) e 1 (p + 2) n a (omega arith) l (omega arith) x
 
   pub samples-there : {sMin fMin : ℕ} (n : ℕ) → sMin ≡ at (words args) 0 → fMin ≡ at (words args) 1 → arrayExtent (drop 2 (words args)) ≡ some n
-      → samplesFrom (words args) ≡ taken (paint (samples sMin fMin (words (partOf sheet (p + 3) (p + 3 + n))))) (2 + n)
+      → samplesFrom (words args) ≡ taken (paint (samples sMin fMin (words (partOf sheet (p + 3) (p + 3 + n))))) (inBand 3) (2 + n)
   unfolding samplesFrom
   samples-there n m f x =
       let part = sheet-part arrays sheet args (p + 1) e 2 (p + 3) n a l (omega arith) x in
@@ -194,22 +194,22 @@ module _ (load ws : List ℕ) (v : ℕ) (h : v ≡ longAt ws 0) where
   load-runs-past l x = load-measured groups 3 load ws v (longAt ws 0) _ none l h x
 
   pub load-runs-there : {sMin : ℕ} (n : ℕ) → sMin ≡ at ws 2 → 3 ≤ length ws → groupExtent (drop (2 + v) (words load)) ≡ some n
-      → loadRunsFrom (loadWords load) ws ≡ taken (paint (runs sMin (words (partOf load (2 + v) (2 + v + n))))) 3
+      → loadRunsFrom (loadWords load) ws ≡ taken (paint (runs sMin (words (partOf load (2 + v) (2 + v + n))))) (inLoad v) 3
   unfolding loadRunsFrom
   load-runs-there n m l x =
       let part = load-part groups load v (longAt ws 0) n h x in
-      load-measured groups 3 load ws v (longAt ws 0) _ (some n) l h x ∙ rw (m, part) refl
+      load-measured groups 3 load ws v (longAt ws 0) _ (some n) l h x ∙ rw (m, part, h) refl
 
   pub load-samples-past : 4 ≤ length ws → arrayExtent (drop (2 + v) (words load)) ≡ none → loadSamplesFrom (loadWords load) ws ≡ atCode 9
   unfolding loadSamplesFrom
   load-samples-past l x = load-measured arrays 4 load ws v (longAt ws 0) _ none l h x
 
   pub load-samples-there : {sMin fMin : ℕ} (n : ℕ) → sMin ≡ at ws 2 → fMin ≡ at ws 3 → 4 ≤ length ws → arrayExtent (drop (2 + v) (words load)) ≡ some n
-      → loadSamplesFrom (loadWords load) ws ≡ taken (paint (samples sMin fMin (words (partOf load (2 + v) (2 + v + n))))) 4
+      → loadSamplesFrom (loadWords load) ws ≡ taken (paint (samples sMin fMin (words (partOf load (2 + v) (2 + v + n))))) (inLoad v) 4
   unfolding loadSamplesFrom
   load-samples-there n m f l x =
       let part = load-part arrays load v (longAt ws 0) n h x in
-      load-measured arrays 4 load ws v (longAt ws 0) _ (some n) l h x ∙ rw (m, f, part) refl
+      load-measured arrays 4 load ws v (longAt ws 0) _ (some n) l h x ∙ rw (m, f, part, h) refl
 
 -- ---- 4, in the load
 
@@ -232,7 +232,7 @@ module _ (load ws : List ℕ) (v mode : ℕ) (h : v ≡ longAt ws 1) (l : 3 ≤ 
   -- after the tests on its words, the tile's array is measured
   tile-measured : (x : Option ℕ) → arrayExtent (drop (2 + v + 3) (words load)) ≡ x
       → tileFrom (loadWords load) ws
-      ≡ extended 9 x (λ n. refuseIf (sideless (tileAt load ws)) 9 (taken (tiled (eqb (at ws 0) 1) (take (3 + n) (tileAt load ws))) 3))
+      ≡ extended 9 x (λ n. refuseIf (sideless (tileAt load ws)) 9 (taken (tiled (eqb (at ws 0) 1) (take (3 + n) (tileAt load ws))) (inLoad (longAt ws 1)) 3))
   unfolding tileFrom
   tile-measured x e = rw (le-leb 3 (length ws) l, le-ltb 1 (at ws 0) (omega arith), ← tile-from 3, e) refl
 
@@ -261,10 +261,10 @@ module _ (load ws : List ℕ) (v mode : ℕ) (h : v ≡ longAt ws 1) (l : 3 ≤ 
 
     -- it has both
     pub tile-there : {dots : ℕ} → (lines ≡ 0 → ⊥) → dots ≡ at (words load) (2 + v + 4) → (dots ≡ 0 → ⊥)
-        → tileFrom (loadWords load) ws ≡ taken (tiled (eqb mode 1) (words (partOf load (2 + v) (2 + v + 3 + n)))) 3
+        → tileFrom (loadWords load) ws ≡ taken (tiled (eqb mode 1) (words (partOf load (2 + v) (2 + v + 3 + n)))) (inLoad v) 3
     tile-there s d t =
         tile-measured (some n) x
-        ∙ rw (ne-eqb _ 0 (λ y. s (w ∙ tile-word 3 ∙ y)), ne-eqb _ 0 (λ y. t (d ∙ tile-word 4 ∙ y)), ← m, tile-part) refl
+        ∙ rw (ne-eqb _ 0 (λ y. s (w ∙ tile-word 3 ∙ y)), ne-eqb _ 0 (λ y. t (d ∙ tile-word 4 ∙ y)), ← m, tile-part, h) refl
 
 -- ---- the command at place p of a band that ends before place e
 

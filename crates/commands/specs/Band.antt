@@ -13,12 +13,12 @@ pub data Reading : Type 0 where
 
 -- the priority after a command
 abbrev pub priorityAfter : ℕ → Command → ℕ
-priorityAfter now (priority p) = p
-priorityAfter now ink = now
-priorityAfter now clear = now
-priorityAfter now (opaque t) = now
-priorityAfter now (transparent t) = now
-priorityAfter now (paint m) = now
+priorityAfter least (priority p) = p
+priorityAfter least ink = least
+priorityAfter least clear = least
+priorityAfter least (opaque t) = least
+priorityAfter least (transparent t) = least
+priorityAfter least (paint m) = least
 
 -- a command in front of those that follow it
 abbrev pub withCommand : Command → Reading → Reading
@@ -27,14 +27,14 @@ withCommand c (refusedAt n p) = refusedAt n p
 
 -- the command at place p, then what comes after its words; a refusal goes straight out
 abbrev pub thenRead : ℕ → ℕ → Taken → (ℕ → ℕ → Reading) → Reading
-thenRead now p (taken c n) k = withCommand c (k (priorityAfter now c) n)
-thenRead now p (broken n i) k = refusedAt n (p + i)
+thenRead least p (taken c src n) k = withCommand c (k (priorityAfter least c) n)
+thenRead least p (broken n i) k = refusedAt n (p + i)
 
 -- the commands in ws, whose first word has place p, after `skip` words that still belong to the command before
 unfoldable pub readFrom : List ℕ → ℕ → ℕ → ℕ → List ℕ → Reading
-readFrom load now skip p [] = read []
-readFrom load now (suc k) p (w ∷ ws) = readFrom load now k (suc p) ws
-readFrom load now zero p (w ∷ ws) = thenRead now p (command load now w ws) (λ later n. readFrom load later n (suc p) ws)
+readFrom load least skip p [] = read []
+readFrom load least (suc k) p (w ∷ ws) = readFrom load least k (suc p) ws
+readFrom load least zero p (w ∷ ws) = thenRead least p (command load least w ws) (λ later n. readFrom load later n (suc p) ws)
 
 -- a band begins with priority 0
 unfoldable pub readBand : List ℕ → List ℕ → Reading

@@ -27,9 +27,16 @@ pub data Command : Type 0 where
   transparent : (tile : List ℕ) → Command
   paint : Mask → Command
 
--- A command is taken whole, with the number of words after its code word; or it is refused, with a number and the offset of its place from the code word
+-- where the group, array or tile of a command begins: so many words after the code word, or at an address of the load
+pub data Source : Type 0 where
+  nowhere : Source
+  inBand : (offset : ℕ) → Source
+  inLoad : (address : ℕ) → Source
+
+-- A command is taken whole, with its source and the number of words after its code word; or it is refused, with a number and the offset of its
+-- place from the code word
 pub data Taken : Type 0 where
-  taken : Command → (more : ℕ) → Taken
+  taken : Command → Source → (more : ℕ) → Taken
   broken : (number offset : ℕ) → Taken
 
 -- ---- how a command is read from the words after its code word, `args`, and the load's words after its count, `load`
@@ -38,76 +45,78 @@ pub data Taken : Type 0 where
 abbrev pub atCode : ℕ → Taken
 atCode number = broken number 0
 
--- 6 where fewer than n words follow the code word
-abbrev pub whole : ℕ → List ℕ → Taken → Taken
-whole n args t = cond (leb n (length args)) t (atCode 6)
+-- 6 where fewer than the n words that are needed follow the code word
+abbrev pub needs : ℕ → List ℕ → Taken → Taken
+needs n args t = cond (leb n (length args)) t (atCode 6)
 
 abbrev pub refuseIf : Bool → ℕ → Taken → Taken
 refuseIf b number t = cond b (atCode number) t
 
--- the n words of an array or group, if it does not run past its end; else a refusal
+-- goes on with the n words of an array or group, or refuses where it runs past the end
 abbrev pub extended : ℕ → Option ℕ → (ℕ → Taken) → Taken
 extended number none k = atCode number
 extended number (some n) k = k n
 
--- 1: a long, high word at most 255; it may not fall below `now`, the band's priority so far
+-- 1: a long, high word at most 255; it may not fall below `least`, the band's priority so far
 unfoldable pub priorityFrom : ℕ → List ℕ → Taken
-priorityFrom now args = whole 2 args (refuseIf (ltb 255 (at args 1)) 8 (refuseIf (ltb (longAt args 0) now) 8 (taken (priority (longAt args 0)) 2)))
+priorityFrom least args = needs 2 args (refuseIf (ltb 255 (at args 1)) 8 (refuseIf (ltb (longAt args 0) least) 8 (taken (priority (longAt args 0)) nowhere 2)))
 
--- 4: 0 opaque or 1 transparent, long address; the tile may not run past the load, and no side of it is 0
+-- the tile command of one mode or the other
 abbrev pub tiled : Bool → List ℕ → Command
 tiled t tile = cond t (transparent tile) (opaque tile)
 
+-- whether a side of a tile is 0
 abbrev pub sideless : List ℕ → Bool
 sideless tile = eqb (at tile 3) 0 || eqb (at tile 4) 0
 
+-- 4: 0 opaque or 1 transparent, long address; the tile may not run past the load, and no side of it is 0
 unfoldable pub tileFrom : List ℕ → List ℕ → Taken
 tileFrom load args =
     let tile = drop (longAt args 1) load in
-    whole 3 args (refuseIf (ltb 1 (at args 0)) 8
+    needs 3 args (refuseIf (ltb 1 (at args 0)) 8
     (extended 9 (arrayExtent (drop 3 tile)) (λ n. refuseIf (sideless tile) 9
-    (taken (tiled (eqb (at args 0) 1) (take (3 + n) tile)) 3))))
+    (taken (tiled (eqb (at args 0) 1) (take (3 + n) tile)) (inLoad (longAt args 1)) 3))))
 
 -- 5: sMin, sSize, fMin, fSize
 unfoldable pub rectangleFrom : List ℕ → Taken
-rectangleFrom args = whole 4 args (taken (paint (rectangle (at args 0) (at args 1) (at args 2) (at args 3))) 4)
+rectangleFrom args = needs 4 args (taken (paint (rectangle (at args 0) (at args 1) (at args 2) (at args 3))) nowhere 4)
 
 -- 6: sMin, sSize, fMin, fSize, fMinLast, fSizeLast; sSize 1 is refused
 unfoldable pub trapezoidFrom : List ℕ → Taken
 trapezoidFrom args =
-    whole 6 args (refuseIf (eqb (at args 1) 1) 8
-    (taken (paint (trapezoid (at args 0) (at args 1) (at args 2) (at args 3) (at args 4) (at args 5))) 6))
+    needs 6 args (refuseIf (eqb (at args 1) 1) 8
+    (taken (paint (trapezoid (at args 0) (at args 1) (at args 2) (at args 3) (at args 4) (at args 5))) nowhere 6))
 
 -- 7: sMin, run group
 unfoldable pub runsFrom : List ℕ → Taken
 runsFrom args =
     let group = drop 1 args in
-    whole 1 args (extended 6 (groupExtent group) (λ n. taken (paint (runs (at args 0) (take n group))) (1 + n)))
+    needs 1 args (extended 6 (groupExtent group) (λ n. taken (paint (runs (at args 0) (take n group))) (inBand 2) (1 + n)))
 
 -- 8: long address, sMin
 unfoldable pub loadRunsFrom : List ℕ → List ℕ → Taken
 loadRunsFrom load args =
     let group = drop (longAt args 0) load in
-    whole 3 args (extended 9 (groupExtent group) (λ n. taken (paint (runs (at args 2) (take n group))) 3))
+    needs 3 args (extended 9 (groupExtent group) (λ n. taken (paint (runs (at args 2) (take n group))) (inLoad (longAt args 0)) 3))
 
 -- 9: sMin, fMin, sample array
 unfoldable pub samplesFrom : List ℕ → Taken
 samplesFrom args =
     let array = drop 2 args in
-    whole 2 args (extended 6 (arrayExtent array) (λ n. taken (paint (samples (at args 0) (at args 1) (take n array))) (2 + n)))
+    needs 2 args (extended 6 (arrayExtent array) (λ n. taken (paint (samples (at args 0) (at args 1) (take n array))) (inBand 3) (2 + n)))
 
 -- 10: long address, sMin, fMin
 unfoldable pub loadSamplesFrom : List ℕ → List ℕ → Taken
 loadSamplesFrom load args =
     let array = drop (longAt args 0) load in
-    whole 4 args (extended 9 (arrayExtent array) (λ n. taken (paint (samples (at args 2) (at args 3) (take n array))) 4))
+    needs 4 args (extended 9 (arrayExtent array) (λ n. taken (paint (samples (at args 2) (at args 3) (take n array))) (inLoad (longAt args 0)) 4))
 
 -- by its code word; in one command 7, 6, 8, 9
 unfoldable pub command : List ℕ → ℕ → ℕ → List ℕ → Taken
-command load now code args =
-    cond (eqb code 1) (priorityFrom now args)
-    (cond (eqb code 2) (taken ink 0)
-    (cond (eqb code 3) (taken clear 0)
+command load least code args =
+    cond (eqb code 1) (priorityFrom least args)
+    (cond (eqb code 2) (taken ink nowhere 0)
+    (cond (eqb code 3) (taken clear nowhere 0)
     (cond (eqb code 4) (tileFrom load args)
     (cond (eqb code 5) (rectangleFrom args)
     (cond (eqb code 6) (trapezoidFrom args)
@@ -119,8 +128,8 @@ command load now code args =
 
 -- the command at the beginning of the words of a band; 6 where there is no word
 unfoldable pub commandIn : List ℕ → ℕ → List ℕ → Taken
-commandIn load now [] = atCode 6
-commandIn load now (code ∷ args) = command load now code args
+commandIn load least [] = atCode 6
+commandIn load least (code ∷ args) = command load least code args
 
 -- ---- worked cases
 
@@ -132,36 +141,36 @@ abbrev pub exampleTile : List ℕ
 exampleTile = 1 ∷ 2 ∷ 3 ∷ 1 ∷ 4 ∷ 0xA000 ∷ []
 
 pub record CommandCases : Type 0 where
-  pub priority-up : commandIn [] 5 (1 ∷ 5 ∷ 0 ∷ 99 ∷ []) ≡ taken (priority 5) 2
-  pub priority-low-word-first : commandIn [] 0 (1 ∷ 256 ∷ 255 ∷ []) ≡ taken (priority 0x00FF0100) 2
+  pub priority-equal : commandIn [] 5 (1 ∷ 5 ∷ 0 ∷ 99 ∷ []) ≡ taken (priority 5) nowhere 2
+  pub priority-low-word-first : commandIn [] 0 (1 ∷ 256 ∷ 255 ∷ []) ≡ taken (priority 0x00FF0100) nowhere 2
   pub priority-high : commandIn [] 0 (1 ∷ 0 ∷ 256 ∷ []) ≡ broken 8 0
   pub priority-falls : commandIn [] 5 (1 ∷ 4 ∷ 0 ∷ []) ≡ broken 8 0
   pub priority-cut : commandIn [] 0 (1 ∷ 5 ∷ []) ≡ broken 6 0
-  pub ink-alone : commandIn [] 0 (2 ∷ []) ≡ taken ink 0
-  pub clear-alone : commandIn [] 0 (3 ∷ []) ≡ taken clear 0
-  pub tile-opaque : commandIn exampleLoad 0 (4 ∷ 0 ∷ 0 ∷ 0 ∷ []) ≡ taken (opaque exampleTile) 3
-  pub tile-transparent : commandIn exampleLoad 0 (4 ∷ 1 ∷ 0 ∷ 0 ∷ []) ≡ taken (transparent exampleTile) 3
+  pub ink-alone : commandIn [] 0 (2 ∷ []) ≡ taken ink nowhere 0
+  pub clear-alone : commandIn [] 0 (3 ∷ []) ≡ taken clear nowhere 0
+  pub tile-opaque : commandIn exampleLoad 0 (4 ∷ 0 ∷ 0 ∷ 0 ∷ []) ≡ taken (opaque exampleTile) (inLoad 0) 3
+  pub tile-transparent : commandIn exampleLoad 0 (4 ∷ 1 ∷ 0 ∷ 0 ∷ []) ≡ taken (transparent exampleTile) (inLoad 0) 3
   pub tile-cut-before-mode : commandIn exampleLoad 0 (4 ∷ 2 ∷ 0 ∷ []) ≡ broken 6 0
   pub tile-mode : commandIn exampleLoad 0 (4 ∷ 2 ∷ 0 ∷ 0 ∷ []) ≡ broken 8 0
   pub tile-past-load : commandIn [] 0 (4 ∷ 0 ∷ 0 ∷ 0 ∷ []) ≡ broken 9 0
   pub tile-address-high : commandIn exampleLoad 0 (4 ∷ 0 ∷ 0 ∷ 1 ∷ []) ≡ broken 9 0
   pub tile-no-lines : commandIn (0 ∷ 0 ∷ 0 ∷ 0 ∷ 1 ∷ []) 0 (4 ∷ 0 ∷ 0 ∷ 0 ∷ []) ≡ broken 9 0
   pub tile-no-dots : commandIn (0 ∷ 0 ∷ 0 ∷ 1 ∷ 0 ∷ []) 0 (4 ∷ 0 ∷ 0 ∷ 0 ∷ []) ≡ broken 9 0
-  pub rectangle-read : commandIn [] 0 (5 ∷ 1 ∷ 2 ∷ 3 ∷ 4 ∷ 99 ∷ []) ≡ taken (paint (rectangle 1 2 3 4)) 4
+  pub rectangle-read : commandIn [] 0 (5 ∷ 1 ∷ 2 ∷ 3 ∷ 4 ∷ 99 ∷ []) ≡ taken (paint (rectangle 1 2 3 4)) nowhere 4
   pub rectangle-cut : commandIn [] 0 (5 ∷ 1 ∷ 2 ∷ 3 ∷ []) ≡ broken 6 0
-  pub trapezoid-read : commandIn [] 0 (6 ∷ 1 ∷ 2 ∷ 3 ∷ 4 ∷ 5 ∷ 6 ∷ []) ≡ taken (paint (trapezoid 1 2 3 4 5 6)) 6
+  pub trapezoid-read : commandIn [] 0 (6 ∷ 1 ∷ 2 ∷ 3 ∷ 4 ∷ 5 ∷ 6 ∷ []) ≡ taken (paint (trapezoid 1 2 3 4 5 6)) nowhere 6
   pub trapezoid-cut : commandIn [] 0 (6 ∷ 1 ∷ 1 ∷ 3 ∷ 4 ∷ 5 ∷ []) ≡ broken 6 0
   pub trapezoid-one-row : commandIn [] 0 (6 ∷ 1 ∷ 1 ∷ 3 ∷ 4 ∷ 5 ∷ 6 ∷ []) ≡ broken 8 0
-  pub trapezoid-no-rows : commandIn [] 0 (6 ∷ 1 ∷ 0 ∷ 3 ∷ 4 ∷ 5 ∷ 6 ∷ []) ≡ taken (paint (trapezoid 1 0 3 4 5 6)) 6
-  pub runs-read : commandIn [] 0 (7 ∷ 9 ∷ 1 ∷ 4 ∷ 0x8002 ∷ 99 ∷ []) ≡ taken (paint (runs 9 (1 ∷ 4 ∷ 0x8002 ∷ []))) 4
+  pub trapezoid-no-rows : commandIn [] 0 (6 ∷ 1 ∷ 0 ∷ 3 ∷ 4 ∷ 5 ∷ 6 ∷ []) ≡ taken (paint (trapezoid 1 0 3 4 5 6)) nowhere 6
+  pub runs-read : commandIn [] 0 (7 ∷ 9 ∷ 1 ∷ 4 ∷ 0x8002 ∷ 99 ∷ []) ≡ taken (paint (runs 9 (1 ∷ 4 ∷ 0x8002 ∷ []))) (inBand 2) 4
   pub runs-cut : commandIn [] 0 (7 ∷ 9 ∷ 1 ∷ 4 ∷ []) ≡ broken 6 0
   pub runs-no-size : commandIn [] 0 (7 ∷ 9 ∷ []) ≡ broken 6 0
-  pub load-runs-read : commandIn exampleLoad 0 (8 ∷ 6 ∷ 0 ∷ 9 ∷ []) ≡ taken (paint (runs 9 (1 ∷ 4 ∷ 0x8002 ∷ []))) 3
+  pub load-runs-read : commandIn exampleLoad 0 (8 ∷ 6 ∷ 0 ∷ 9 ∷ []) ≡ taken (paint (runs 9 (1 ∷ 4 ∷ 0x8002 ∷ []))) (inLoad 6) 3
   pub load-runs-cut : commandIn exampleLoad 0 (8 ∷ 6 ∷ 0 ∷ []) ≡ broken 6 0
   pub load-runs-past : commandIn exampleLoad 0 (8 ∷ 12 ∷ 0 ∷ 9 ∷ []) ≡ broken 9 0
-  pub samples-read : commandIn [] 0 (9 ∷ 8 ∷ 7 ∷ 1 ∷ 4 ∷ 0xF000 ∷ 99 ∷ []) ≡ taken (paint (samples 8 7 (1 ∷ 4 ∷ 0xF000 ∷ []))) 5
+  pub samples-read : commandIn [] 0 (9 ∷ 8 ∷ 7 ∷ 1 ∷ 4 ∷ 0xF000 ∷ 99 ∷ []) ≡ taken (paint (samples 8 7 (1 ∷ 4 ∷ 0xF000 ∷ []))) (inBand 3) 5
   pub samples-cut : commandIn [] 0 (9 ∷ 8 ∷ 7 ∷ 1 ∷ 17 ∷ 0xF000 ∷ []) ≡ broken 6 0
-  pub load-samples-read : commandIn exampleLoad 0 (10 ∷ 9 ∷ 0 ∷ 8 ∷ 7 ∷ []) ≡ taken (paint (samples 8 7 (1 ∷ 4 ∷ 0xF000 ∷ []))) 4
+  pub load-samples-read : commandIn exampleLoad 0 (10 ∷ 9 ∷ 0 ∷ 8 ∷ 7 ∷ []) ≡ taken (paint (samples 8 7 (1 ∷ 4 ∷ 0xF000 ∷ []))) (inLoad 9) 4
   pub load-samples-cut : commandIn exampleLoad 0 (10 ∷ 9 ∷ 0 ∷ 8 ∷ []) ≡ broken 6 0
   pub load-samples-past : commandIn exampleLoad 0 (10 ∷ 10 ∷ 0 ∷ 8 ∷ 7 ∷ []) ≡ broken 9 0
   pub unknown : commandIn [] 0 (11 ∷ []) ≡ broken 7 0
@@ -175,5 +184,5 @@ command-cases = search
 
 -- T3: a trapezoid of sSize 1 is refused with 8 at its code word, whatever its other words are
 pub record OneRow : Type 0 where
-  pub t3 : (load args : List ℕ) (now sMin fMin fSize fMinLast fSizeLast : ℕ)
-      → commandIn load now (6 ∷ sMin ∷ 1 ∷ fMin ∷ fSize ∷ fMinLast ∷ fSizeLast ∷ args) ≡ broken 8 0
+  pub t3 : (load args : List ℕ) (least sMin fMin fSize fMinLast fSizeLast : ℕ)
+      → commandIn load least (6 ∷ sMin ∷ 1 ∷ fMin ∷ fSize ∷ fMinLast ∷ fSizeLast ∷ args) ≡ broken 8 0

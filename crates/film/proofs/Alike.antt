@@ -309,7 +309,7 @@ module _ (one two load : List ℕ) (n₁ n₂ : ℕ) (k₁ : Known one load n₁
       let q = same-due one two load n₁ n₂ k₁ k₂ page b has al page′ b′ h ne (length held₁) (length held₂) le₁ le₂ in
       let w = sizeOf one b′ in
       record {
-        both-drew = ap isDone (p₁ .answer-is ∙ ap due a);
+        first-drew = ap isDone (p₁ .answer-is ∙ ap due a);
         same-answer = p₁ .answer-is ∙ ap due q ∙ sym (p₂ .answer-is);
         same-rows =
             ap (take w) (p₁ .left-is ∙ ap (λ (x : DrawAnswer). bufferAfter x held₁) q)

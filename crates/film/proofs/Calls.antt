@@ -1,5 +1,5 @@
 -- Demand 3's part about the calls. Assumes nothing.
-use mathlib.Core.Path.{_≡_, refl, sym, ap, _∙_, subst}
+use mathlib.Core.Path.{_≡_, refl, sym, ap, ap₂, _∙_, subst}
 use mathlib.Core.Logic.{_⊎_, inl, inr}
 use mathlib.Core.Bool.{Bool, true, false, false≢true, not, _||_}
 use mathlib.Core.List.{List, [], _∷_, _++_, List·Memᴰ, List·Memᴰ·not-nil, List·Memᴰ·cases-cons, map}
@@ -28,7 +28,7 @@ use Rattle.film.specs.Picture.{bandCommands, picture}
 use Rattle.film.specs.Draw.{DrawAnswer, drawn, refused, drawTable, drawBand, drawReached, drawAnswer, bufferAfter}
 use Rattle.film.specs.Promise.{due, told, Promised}
 use Rattle.film.specs.Demand3.{Buffers, Step, put, Call, Made, over, wrote, called, Has, sizeOf, rowsOfPicture, Drew, RefusedWith, isDone, dotsTold, standing, OneOfEach, none, more, OfTheCalls}
-use Rattle.film.proofs.Rows.{length-stretch, drop-stretch, take-stretch, stretch-same, joined-cut, length-joined, take-min}
+use Rattle.film.proofs.Rows.{length-numbered, drop-numbered, take-numbered, numbered-same, joined-cut, length-joined, take-min}
 use Rattle.film.proofs.Walk.{draw-meets, There, there}
 
 -- ---- a sheet that the check passes with its load
@@ -113,8 +113,8 @@ pub band-is : (sheet load : List ℕ) (page b : ℕ) → 0 < heraldOf (words she
 unfolding rowsOfPicture picture rowsOf
 band-is sheet load page b pos =
     let h = heraldOf (words sheet) in
-    ap joined (rw (drop-stretch, take-stretch, zero-add, min-min)
-    (stretch-same (bandStart h b) (bandRows h b) _ _
+    ap joined (rw (drop-numbered, take-numbered, zero-add, min-min)
+    (numbered-same (bandStart h b) (bandRows h b) _ _
     (λ i lt. ap (λ (c : ℕ). rowBytes (h .imageFSize) (filmOf (bandCommands sheet load page c) (bandStart h b + i))) (holds (h .bandSSize) b i (omega arith)))))
 
 pub band-size : (h : Herald) (b : ℕ) (cs : List Command) → length (joined (rowsOf (h .imageFSize) (bandStart h b) (bandRows h b) cs)) ≡ bandBytes h b
@@ -123,7 +123,7 @@ band-size h b cs = length-joined (rowLength (h .imageFSize)) (bandStart h b) (ba
 
 length-picture : (sheet load : List ℕ) (page : ℕ) → length (picture sheet load page) ≡ heraldOf (words sheet) .imageSSize
 unfolding picture
-length-picture sheet load page = length-stretch _ _ _
+length-picture sheet load page = length-numbered _ _ _
 
 -- a band's rows, and the picture's rows after them
 band-then : (sheet load : List ℕ) (page b : ℕ)
@@ -237,17 +237,16 @@ module _ (sheet load : List ℕ) (n : ℕ) (k : Known sheet load n) where
         ∙ ap (λ (x : List ℕ). rowsOfPicture sheet load page b₀ ++ x) (rows-from (suc b₀) n₀ cs₀ (b-next b₀ n₀ _ e) rest)
         ∙ band-then sheet load page b₀
 
-    dots-from : (b j : ℕ) (cs : List Call) → b + j ≡ bandCount (heraldOf (words sheet)) → OneOfEach calls page b j cs
-        → total (map (λ (c : Call). dotsTold (told (c .answer))) cs) ≡ onesOf (after b)
-    unfolding total onesOf
-    dots-from b j cs e (none {b = b₀}) = sym (ap onesOf (after-last b₀ e))
-    dots-from b j cs e (more {b = b₀} {n = n₀} {cs = cs₀} c m pg bd d rest) =
+    -- the dots of drawn calls are the one bits of their rows
+    dots-of : (b j : ℕ) (cs : List Call) → b + j ≡ bandCount (heraldOf (words sheet)) → OneOfEach calls page b j cs
+        → total (map (λ (c : Call). dotsTold (told (c .answer))) cs) ≡ onesOf (joined (map (standing sheet) cs))
+    unfolding total onesOf joined
+    dots-of b j cs e (none {b = b₀}) = refl
+    dots-of b j cs e (more {b = b₀} {n = n₀} {cs = cs₀} c m pg bd d rest) =
         let dr = drew-at b₀ c (b-lt b₀ n₀ _ e) m pg bd d in
-        let same : onesOf (rowsOfPicture sheet load (c .page) (c .b)) ≡ onesOf (rowsOfPicture sheet load page b₀) = rw (pg, bd) refl in
-        ap (λ (x : ℕ). x + total (map (λ (c : Call). dotsTold (told (c .answer))) cs₀)) (ap dotsTold (dr .answer-is) ∙ same)
-        ∙ ap (λ (x : ℕ). onesOf (rowsOfPicture sheet load page b₀) + x) (dots-from (suc b₀) n₀ cs₀ (b-next b₀ n₀ _ e) rest)
-        ∙ sym (ones-append (rowsOfPicture sheet load page b₀) (after (suc b₀)))
-        ∙ ap onesOf (band-then sheet load page b₀)
+        let dots : dotsTold (told (c .answer)) ≡ onesOf (standing sheet c) = ap dotsTold (dr .answer-is) ∙ ap onesOf (sym (standing-is c dr)) in
+        ap₂ (λ (x y : ℕ). x + y) dots (dots-of (suc b₀) n₀ cs₀ (b-next b₀ n₀ _ e) rest)
+        ∙ sym (ones-append (standing sheet c) (joined (map (standing sheet) cs₀)))
 
 pub of-the-calls : (sheet load : List ℕ) (n : ℕ) → checkAnswer sheet load ≡ pages n
     → (bs : Buffers) (steps : List Step) (cs : List Call) → Made sheet load bs steps cs → OfTheCalls sheet load cs
@@ -260,5 +259,7 @@ of-the-calls sheet load n e bs steps calls pl =
       no-such = λ c m h. refused-with sheet load n k 11 c (made c m) (answer-11 sheet load n k (c .page) (c .b) (length (c .held)) h);
       no-room = λ c m h lt. refused-with sheet load n k 12 c (made c m) (answer-12 sheet load n k (c .page) (c .b) (length (c .held)) h lt);
       whole-page = λ page cs here one. rows-from sheet load n k calls made page here 0 N cs (zero-add N) one ∙ from-0 sheet load page;
-      dots-add-up = λ page cs here one. dots-from sheet load n k calls made page here 0 N cs (zero-add N) one ∙ ap onesOf (from-0 sheet load page);
+      dots-add-up = λ page cs here one.
+          dots-of sheet load n k calls made page here 0 N cs (zero-add N) one
+          ∙ ap onesOf (rows-from sheet load n k calls made page here 0 N cs (zero-add N) one ∙ from-0 sheet load page);
     }

@@ -3,4 +3,5 @@ pub mod Rows
 pub mod Walk
 pub mod Calls
 pub mod Alike
+pub mod Made
 pub mod Demand3

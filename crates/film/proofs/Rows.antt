@@ -6,31 +6,31 @@ use native.Mathlib.Nat.{suc-add, add-zero, add-suc, suc-mul, zero-mul, zero-min,
 use native.Mathlib.Omega.{arith}
 use lib.ListN.{length, take, drop, length-append, take-append-drop}
 use Rattle.row.specs.Counts.{joined}
-use Rattle.ink.specs.Pictures.{stretch}
+use Rattle.ink.specs.Pictures.{numbered}
 
-pub length-stretch : (i n : ℕ) (f : ℕ → List ℕ) → length (stretch i n f) ≡ n
-unfolding stretch
-length-stretch i zero f = refl
-length-stretch i (suc n) f = ap suc (length-stretch (suc i) n f)
+pub length-numbered : (i n : ℕ) (f : ℕ → List ℕ) → length (numbered i n f) ≡ n
+unfolding numbered
+length-numbered i zero f = refl
+length-numbered i (suc n) f = ap suc (length-numbered (suc i) n f)
 
-pub drop-stretch : (j i n : ℕ) (f : ℕ → List ℕ) → drop j (stretch i n f) ≡ stretch (i + j) (n - j) f
-unfolding stretch
-drop-stretch zero i n f = rw (add-zero, sub-zero)
-drop-stretch (suc j) i zero f = rw zero-sub
-drop-stretch (suc j) i (suc n) f = drop-stretch j (suc i) n f ∙ rw (suc-sub-suc, add-suc, suc-add)
+pub drop-numbered : (j i n : ℕ) (f : ℕ → List ℕ) → drop j (numbered i n f) ≡ numbered (i + j) (n - j) f
+unfolding numbered
+drop-numbered zero i n f = rw (add-zero, sub-zero)
+drop-numbered (suc j) i zero f = rw zero-sub
+drop-numbered (suc j) i (suc n) f = drop-numbered j (suc i) n f ∙ rw (suc-sub-suc, add-suc, suc-add)
 
-pub take-stretch : (j i n : ℕ) (f : ℕ → List ℕ) → take j (stretch i n f) ≡ stretch i (min j n) f
-unfolding stretch
-take-stretch zero i n f = rw zero-min
-take-stretch (suc j) i zero f = rw min-zero
-take-stretch (suc j) i (suc n) f = rw suc-min-suc (ap (λ (r : List (List ℕ)). f i ∷ r) (take-stretch j (suc i) n f))
+pub take-numbered : (j i n : ℕ) (f : ℕ → List ℕ) → take j (numbered i n f) ≡ numbered i (min j n) f
+unfolding numbered
+take-numbered zero i n f = rw zero-min
+take-numbered (suc j) i zero f = rw min-zero
+take-numbered (suc j) i (suc n) f = rw suc-min-suc (ap (λ (r : List (List ℕ)). f i ∷ r) (take-numbered j (suc i) n f))
 
-pub stretch-same : (i n : ℕ) (f g : ℕ → List ℕ) → ((k : ℕ) → k < n → f (i + k) ≡ g (i + k)) → stretch i n f ≡ stretch i n g
-unfolding stretch
-stretch-same i zero f g h = refl
-stretch-same i (suc n) f g h =
+pub numbered-same : (i n : ℕ) (f g : ℕ → List ℕ) → ((k : ℕ) → k < n → f (i + k) ≡ g (i + k)) → numbered i n f ≡ numbered i n g
+unfolding numbered
+numbered-same i zero f g h = refl
+numbered-same i (suc n) f g h =
     let h₀ : f i ≡ g i = rw add-zero at (h 0 (omega arith)) in
-    let t : stretch (suc i) n f ≡ stretch (suc i) n g = stretch-same (suc i) n f g (λ k lt. rw (suc-add, ← add-suc) (h (suc k) (omega arith))) in
+    let t : numbered (suc i) n f ≡ numbered (suc i) n g = numbered-same (suc i) n f g (λ k lt. rw (suc-add, ← add-suc) (h (suc k) (omega arith))) in
     λ x. h₀ x ∷ t x
 
 -- the first n rows, and the rest
@@ -43,11 +43,11 @@ pub joined-cut : (n : ℕ) (l : List (List ℕ)) → joined (take n l) ++ joined
 joined-cut n l = sym (joined-append (take n l) (drop n l)) ∙ ap joined (take-append-drop n l)
 
 -- n rows of w bytes each
-pub length-joined : (w i n : ℕ) (f : ℕ → List ℕ) → ((s : ℕ) → length (f s) ≡ w) → length (joined (stretch i n f)) ≡ n * w
-unfolding stretch joined
+pub length-joined : (w i n : ℕ) (f : ℕ → List ℕ) → ((s : ℕ) → length (f s) ≡ w) → length (joined (numbered i n f)) ≡ n * w
+unfolding numbered joined
 length-joined w i zero f h = rw zero-mul
 length-joined w i (suc n) f h =
-    length-append (f i) (joined (stretch (suc i) n f)) ∙ rw suc-mul (omega (arith, h i, length-joined w (suc i) n f h))
+    length-append (f i) (joined (numbered (suc i) n f)) ∙ rw suc-mul (omega (arith, h i, length-joined w (suc i) n f h))
 
 pub take-min : (n : ℕ) (l : List (List ℕ)) → take (min n (length l)) l ≡ take n l
 take-min zero l = rw zero-min

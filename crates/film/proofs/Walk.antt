@@ -12,7 +12,7 @@ use Rattle.words.specs.Words.{words}
 use Rattle.commands.specs.Band.{Reading, read, refusedAt, readBand}
 use Rattle.sheet.specs.Herald.{heraldOf, pageCount, bandCount}
 use Rattle.sheet.specs.Layout.{Layout, end, bad, band, bandsThen, pagesFrom, layoutOf, bandIndex, Reached, found, stopped, nowhere, reach}
-use Rattle.sheet.specs.Check.{pages, passBand, checkLayout}
+use Rattle.sheet.specs.Check.{pages, refused, passBand, checkLayout}
 use Rattle.film.specs.Picture.{wordsReached, commandsRead}
 use Rattle.film.specs.Demand3.{Has}
 
@@ -57,6 +57,9 @@ draw-meets sheet page b h =
 
 -- ---- a layout that the check passes
 
+not-pages : (k p r : ℕ) → refused k p ≡ pages r → ⊥
+not-pages k p r e = let z : _≡_ {A = ℕ} 0 1 = cc in omega arith
+
 module _ (load : List ℕ) (n r : ℕ) where
   record OkBand (ws : List ℕ) (rest : Layout) : Type 0 where
     reads : readBand load ws ≡ read (commandsRead (readBand load ws))
@@ -68,14 +71,14 @@ module _ (load : List ℕ) (n r : ℕ) where
     where
       go : (x : Reading) → readBand load ws ≡ x → passBand p x (checkLayout load n rest) ≡ pages r → OkBand ws rest
       go (read cs) q e = record { reads = rw q refl; after = e }
-      go (refusedAt k i) q e = let z : _≡_ {A = ℕ} 0 1 = cc in absurd (omega arith)
+      go (refusedAt k i) q e = absurd (not-pages k (p + i) r e)
 
   pub ok-after : (p : ℕ) (ws : List ℕ) (rest : Layout) → checkLayout load n (band p ws rest) ≡ pages r → checkLayout load n rest ≡ pages r
   ok-after p ws rest e = (ok-band p ws rest e) .after
 
   not-bad : (k p : ℕ) → checkLayout load n (bad k p) ≡ pages r → ⊥
   unfolding checkLayout
-  not-bad k p e = let z : _≡_ {A = ℕ} 0 1 = cc in omega arith
+  not-bad k p e = not-pages k p r e
 
   -- where a test chooses between a layout and a refusal, it chose the layout
   pub chosen : (t : Bool) (L : Layout) (k p : ℕ) → checkLayout load n (cond t L (bad k p)) ≡ pages r → t ≡ true

@@ -126,9 +126,10 @@ pub record Alike (one two : List ℕ) (page b : ℕ) : Type 0 where
   -- and that band it is
   pub stands : reach (bandIndex (words one) page b) (layoutOf (words one)) ≡ found (suc (length before)) commands₁
 
--- two drawings of band b, each into a buffer of its own, have the same rows and dots
+-- two drawings of a band of this size, each into a buffer of its own, have the same rows and dots; the first drew, and so, with the same answer,
+-- did the second
 pub record SameBand (size : ℕ) (r₁ r₂ : Drawn) (left₁ left₂ : List ℕ) : Type 0 where
-  pub both-drew : isDone (told r₁) ≡ true
+  pub first-drew : isDone (told r₁) ≡ true
   pub same-answer : told r₁ ≡ told r₂
   pub same-rows : take size left₁ ≡ take size left₂
 

@@ -20,7 +20,7 @@ use Rattle.sheet.specs.Refusals as refusals
 use Rattle.sheet.specs.Layout.{bandsThen, pagesFrom, layoutOf, bandIndex, Reached, found, stopped, nowhere, reach}
 use Rattle.ink.specs.Masks.{masked, sample, inRuns, within}
 use Rattle.ink.specs.Colours.{painted, tileDot, tileStart}
-use Rattle.ink.specs.Pictures.{rowsOf, stretch, rowBytes, filmOf, carryOut}
+use Rattle.ink.specs.Pictures.{rowsOf, numbered, rowBytes, filmOf, carryOut}
 use Rattle.film.specs.Examples.{emptyLoad, listing, twoPages, cutBand, onePage}
 
 -- rows, dots, and the bytes of the rows; or a refusal
@@ -91,7 +91,7 @@ pub record DrawCases : Type 0 where
   pub words-after : drawAnswer (onePage (2 ∷ 0 ∷ 0 ∷ 7 ∷ [])) emptyLoad 0 1 4 ≡ drawn 2 0 (0 ∷ 0 ∷ 0 ∷ 0 ∷ [])
 
 pub draw-cases : DrawCases
-unfolding drawAnswer drawTable bufferAfter first lengthTable passwordTable sizeTable loadTable pageTable frontTable loadCount onesOf ones joined words bytesOf loadWords bandCount bandsThen pagesFrom reach readBand readFrom command priorityFrom tileFrom rectangleFrom trapezoidFrom runsFrom loadRunsFrom samplesFrom loadSamplesFrom arrayExtent samplesIn tileIn linesExtent groupExtent linesIn runsIn rowsOf stretch rowBytes rowOf byteOf filmOf carryOut painted tileDot tileStart masked sample inRuns within
+unfolding drawAnswer drawTable bufferAfter first lengthTable passwordTable sizeTable loadTable pageTable frontTable loadCount onesOf ones joined words bytesOf loadWords bandCount bandsThen pagesFrom reach readBand readFrom command priorityFrom tileFrom rectangleFrom trapezoidFrom runsFrom loadRunsFrom samplesFrom loadSamplesFrom arrayExtent samplesIn tileIn linesExtent groupExtent linesIn runsIn rowsOf numbered rowBytes rowOf byteOf filmOf carryOut painted tileDot tileStart masked sample inRuns within
 draw-cases =
     record {
       listing-band-0 = refl;

@@ -24,6 +24,13 @@ twoPages =
     ∷ 2 ∷ 5 ∷ 5 ∷ 0 ∷ 2 ∷ 0 ∷ 1 ∷ 5 ∷ 5 ∷ 0 ∷ 2 ∷ 0 ∷ 2
     ∷ 2 ∷ 5 ∷ 5 ∷ 0 ∷ 2 ∷ 0 ∷ 3 ∷ 5 ∷ 5 ∷ 0 ∷ 2 ∷ 0 ∷ 4 ∷ [])
 
+-- the same with just an ink command in band 0 of page 0
+abbrev pub twoPages₂ : List ℕ
+twoPages₂ =
+    bytesOf (0xAAAA ∷ 1 ∷ 0 ∷ 0 ∷ 0 ∷ 2 ∷ 16 ∷ 1 ∷ 0 ∷ 0 ∷ 1 ∷ 2
+    ∷ 2 ∷ 1 ∷ 2 ∷ 5 ∷ 5 ∷ 0 ∷ 2 ∷ 0 ∷ 2
+    ∷ 2 ∷ 5 ∷ 5 ∷ 0 ∷ 2 ∷ 0 ∷ 3 ∷ 5 ∷ 5 ∷ 0 ∷ 2 ∷ 0 ∷ 4 ∷ [])
+
 -- 3 lines of 17 dots in bands of 2: band 0 inks lines 0 to 2 from dot 15 on and ends in clear and priority 9; band 1, cut to one line, paints
 -- without a colour, after priority 0
 abbrev pub cutBand : List ℕ

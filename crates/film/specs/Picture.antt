@@ -13,7 +13,7 @@ use Rattle.sheet.specs.Herald.{heraldOf, bandCount}
 use Rattle.sheet.specs.Layout.{layoutOf, bandsThen, pagesFrom, bandIndex, Reached, found, stopped, nowhere, reach}
 use Rattle.ink.specs.Masks.{masked, sample, inRuns, within}
 use Rattle.ink.specs.Colours.{painted, tileDot, tileStart}
-use Rattle.ink.specs.Pictures.{stretch, rowBytes, filmOf, carryOut}
+use Rattle.ink.specs.Pictures.{numbered, rowBytes, filmOf, carryOut}
 use Rattle.film.specs.Examples.{emptyLoad, listing, twoPages, cutBand, loadSheet, exampleLoad}
 
 -- the words of a band that was reached; none where there is no such band
@@ -37,7 +37,7 @@ bandCommands sheet load page b =
 unfoldable pub picture : (sheet load : List ℕ) (page : ℕ) → List (List ℕ)
 picture sheet load page =
     let h = heraldOf (words sheet) in
-    stretch 0 (h .imageSSize) (λ s. rowBytes (h .imageFSize) (filmOf (bandCommands sheet load page (s / h .bandSSize)) s))
+    numbered 0 (h .imageSSize) (λ s. rowBytes (h .imageFSize) (filmOf (bandCommands sheet load page (s / h .bandSSize)) s))
 
 -- ---- worked cases
 
@@ -52,7 +52,7 @@ pub record PictureCases : Type 0 where
   pub load-picture : picture loadSheet exampleLoad 0 ≡ (0x0C ∷ 0 ∷ []) ∷ (0x3C ∷ 0 ∷ []) ∷ (0x15 ∷ 0x55 ∷ []) ∷ []
 
 pub picture-cases : PictureCases
-unfolding picture bandCommands words bytesOf loadWords bandCount bandsThen pagesFrom reach readBand readFrom command priorityFrom tileFrom rectangleFrom trapezoidFrom runsFrom loadRunsFrom samplesFrom loadSamplesFrom arrayExtent samplesIn tileIn linesExtent groupExtent linesIn runsIn stretch rowBytes rowOf byteOf filmOf carryOut painted tileDot tileStart masked sample inRuns within
+unfolding picture bandCommands words bytesOf loadWords bandCount bandsThen pagesFrom reach readBand readFrom command priorityFrom tileFrom rectangleFrom trapezoidFrom runsFrom loadRunsFrom samplesFrom loadSamplesFrom arrayExtent samplesIn tileIn linesExtent groupExtent linesIn runsIn numbered rowBytes rowOf byteOf filmOf carryOut painted tileDot tileStart masked sample inRuns within
 picture-cases =
     record {
       listing-picture = refl;

@@ -16,8 +16,8 @@ use Rattle.sheet.specs.Layout.{bandsThen, pagesFrom, reach}
 use Rattle.sheet.specs.Check.{checkAnswer, checkLayout, pages}
 use Rattle.ink.specs.Masks.{masked, sample, inRuns, within}
 use Rattle.ink.specs.Colours.{painted, tileDot, tileStart}
-use Rattle.ink.specs.Pictures.{rowsOf, stretch, rowBytes, filmOf, carryOut}
-use Rattle.film.specs.Examples.{emptyLoad, listing, listing₂, cutBand, loadSheet, exampleLoad}
+use Rattle.ink.specs.Pictures.{rowsOf, numbered, rowBytes, filmOf, carryOut}
+use Rattle.film.specs.Examples.{emptyLoad, listing, listing₂, twoPages, twoPages₂, cutBand, loadSheet, exampleLoad}
 use Rattle.film.specs.Draw.{drawTable, drawAnswer, bufferAfter}
 use Rattle.film.specs.Demand3.{Buffers, draw, write, Call, Made, over, wrote, called, OneOfEach, none, more, Alike}
 use Rattle.film.specs.declared.Drawn.the-variants.{Done, Refused}
@@ -48,11 +48,15 @@ pub record Witnesses : Type 0 where
   pub calls-made :
       Made listing emptyLoad five (draw 0 1 7 ∷ draw 1 0 7 ∷ write 7 (5 ∷ 6 ∷ 7 ∷ []) ∷ draw 0 0 7 ∷ write 7 (8 ∷ 8 ∷ 8 ∷ 8 ∷ []) ∷ draw 0 0 7 ∷ []) some-calls
   pub one-of-each : OneOfEach some-calls 0 0 2 (last-call ∷ first-call ∷ [])
-  pub two-alike : Alike listing listing₂ 0 1
-  pub other-passes : checkAnswer listing₂ emptyLoad ≡ pages 1
+  -- alike but for a page's last band, and but for the first band of all, after which everything moves
+  pub last-band-passes : checkAnswer listing₂ emptyLoad ≡ pages 1
+  pub last-band-alike : Alike listing listing₂ 0 1
+  pub two-pages-pass : checkAnswer twoPages emptyLoad ≡ pages 2
+  pub first-band-passes : checkAnswer twoPages₂ emptyLoad ≡ pages 2
+  pub first-band-alike : Alike twoPages twoPages₂ 0 0
 
 pub witnesses : Witnesses
-unfolding checkAnswer checkLayout drawAnswer drawTable bufferAfter front first lengthTable passwordTable sizeTable loadTable pageTable frontTable loadCount onesOf ones joined words bytesOf loadWords bandCount bandsThen pagesFrom reach readBand readFrom command priorityFrom tileFrom rectangleFrom trapezoidFrom runsFrom loadRunsFrom samplesFrom loadSamplesFrom arrayExtent samplesIn tileIn linesExtent groupExtent linesIn runsIn rowsOf stretch rowBytes rowOf byteOf filmOf carryOut painted tileDot tileStart masked sample inRuns within
+unfolding checkAnswer checkLayout drawAnswer drawTable bufferAfter front first lengthTable passwordTable sizeTable loadTable pageTable frontTable loadCount onesOf ones joined words bytesOf loadWords bandCount bandsThen pagesFrom reach readBand readFrom command priorityFrom tileFrom rectangleFrom trapezoidFrom runsFrom loadRunsFrom samplesFrom loadSamplesFrom arrayExtent samplesIn tileIn linesExtent groupExtent linesIn runsIn rowsOf numbered rowBytes rowOf byteOf filmOf carryOut painted tileDot tileStart masked sample inRuns within
 witnesses =
     record {
       listing-passes = refl;
@@ -66,7 +70,10 @@ witnesses =
       one-of-each =
           more last-call (List·Memᴰ·tail (List·Memᴰ·tail (List·Memᴰ·tail (List·Memᴰ·head refl)))) refl refl refl
           (more first-call (List·Memᴰ·head refl) refl refl refl none);
-      two-alike =
+      last-band-passes = refl;
+      two-pages-pass = refl;
+      first-band-passes = refl;
+      last-band-alike =
           record {
             before = 0xAAAA ∷ 1 ∷ 0 ∷ 0x0258 ∷ 0x0258 ∷ 4 ∷ 16 ∷ 2 ∷ 0 ∷ 0 ∷ 1 ∷ 1 ∷ 2 ∷ 5 ∷ 5 ∷ 1 ∷ 2 ∷ 1 ∷ 3 ∷ [];
             after = [];
@@ -76,5 +83,14 @@ witnesses =
             two-is = refl;
             stands = refl;
           };
-      other-passes = refl;
+      first-band-alike =
+          record {
+            before = 0xAAAA ∷ 1 ∷ 0 ∷ 0 ∷ 0 ∷ 2 ∷ 16 ∷ 1 ∷ 0 ∷ 0 ∷ 1 ∷ 2 ∷ 2 ∷ [];
+            after = 5 ∷ 5 ∷ 0 ∷ 2 ∷ 0 ∷ 2 ∷ 2 ∷ 5 ∷ 5 ∷ 0 ∷ 2 ∷ 0 ∷ 3 ∷ 5 ∷ 5 ∷ 0 ∷ 2 ∷ 0 ∷ 4 ∷ [];
+            commands₁ = 5 ∷ 0 ∷ 2 ∷ 0 ∷ 1 ∷ [];
+            commands₂ = 2 ∷ [];
+            one-is = refl;
+            two-is = refl;
+            stands = refl;
+          };
     }

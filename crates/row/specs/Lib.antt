@@ -12,7 +12,7 @@
 -- its arguments: `zero` is 0, and `suc n` is one more than n. `a ≡ b` says that a is b.
 --
 -- How to read a contract, in src/lib.rt. `ensures` says what holds when the function returns: `r` is its answer, `now (row .entry)` is the list
--- of the row's bytes as the function was called, and `now (row .exit)` as it returns.
+-- of the row's bytes as the function was called, and `now (row .exit)` as it returns; `now r` is the list of the bytes of a slice that is answered.
 pub mod Dots
 pub mod Stretches
 pub mod Counts

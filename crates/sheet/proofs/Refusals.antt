@@ -1,19 +1,16 @@
 -- Laws of the table of refusals: its first line that holds, tables one after another, and what a sheet and load are that pass. Assumes nothing.
 use mathlib.Core.Path.{_≡_, refl, sym, ap, ap₂, _∙_}
-use mathlib.Core.Bool.{Bool, true, false, cond, not, _||_}
-use mathlib.Core.List.{List, [], _∷_, _++_, append-assoc}
+use mathlib.Core.Bool.{Bool, true, false, cond, _||_}
+use mathlib.Core.List.{List, [], _∷_, _++_}
 use Prim.Native.Nat.{ℕ, zero, suc, _+_, _*_, _%_, _<_, _≤_}
 use native.Mathlib.Omega.{arith}
-use borrow.Author.Tests.{ltb-false, eqb-false, eqb-true, not-false, lt-ltb, le-ltb, eq-eqb, ne-eqb}
-use lib.Dec.{ltb, eqb}
+use borrow.Author.Tests.{ltb-false, eqb-false, eqb-true, not-false}
+use lib.Dec.{ltb}
 use lib.ListN.{length, getD}
 use Rattle.words.specs.Words.{words}
 use Rattle.words.specs.Load.{loadCount}
 use Rattle.sheet.specs.Herald.{heraldOf, pageCount, rowLength}
-use Rattle.sheet.specs.Refusals.{Line, refuse, Verdict, fine, refused, first, outside, lengthTable, passwordTable, sizeTable, loadTable, pageTable, frontTable, front}
-use Rattle.sheet.specs.declared.Front.{Front}
-use Rattle.sheet.specs.declared.Front.the-variants.{Fine, Refused}
-use Rattle.sheet.specs.Answers.{told}
+use Rattle.sheet.specs.Refusals.{Line, refuse, Verdict, fine, refused, first, orElse, outside, lengthTable, passwordTable, sizeTable, loadTable, pageTable, frontTable, front}
 
 -- ---- one line
 
@@ -41,30 +38,7 @@ first-cons l ls = go (l .when)
     go true e = absurd (fine-not-refused (l .number) (l .place) e)
     go false e = (refl, e)
 
--- ---- tests of a table, by what the code has tested: a and b are its numbers for x and y
-
-pub less : {a b x y : ℕ} → a ≡ x → b ≡ y → a < b → ltb x y ≡ true
-less {a} {b} {x} {y} p q h = lt-ltb x y (omega arith)
-
-pub not-less : {a b x y : ℕ} → a ≡ x → b ≡ y → b ≤ a → ltb x y ≡ false
-not-less {a} {b} {x} {y} p q h = le-ltb x y (omega arith)
-
-pub other : {a b x y : ℕ} → a ≡ x → b ≡ y → (a ≡ b → ⊥) → not (eqb x y) ≡ true
-other {a} {b} {x} {y} p q h = ap not (ne-eqb x y (λ e. h (omega arith)))
-
-pub not-other : {a b x y : ℕ} → a ≡ x → b ≡ y → a ≡ b → not (eqb x y) ≡ false
-not-other {a} {b} {x} {y} p q h = ap not (eq-eqb x y (omega arith))
-
--- r is the answer of `is_outside`
-pub outside-is : {a b x y : ℕ} {r t : Bool} → a ≡ x → b ≡ y → r ≡ outside 1 a b → r ≡ t → outside 1 x y ≡ t
-outside-is {a} {b} {x} {y} p q e h = sym (ap₂ (λ (u v : ℕ). outside 1 u v) p q) ∙ sym e ∙ h
-
 -- ---- two tables, one after the other
-
--- the first verdict, unless it is fine
-abbrev pub orElse : Verdict → Verdict → Verdict
-orElse fine v = v
-orElse (refused n p) v = refused n p
 
 pub first-append : (a b : List Line) → first (a ++ b) ≡ orElse (first a) (first b)
 unfolding first
@@ -79,33 +53,22 @@ first-append (l ∷ ls) b = go (l .when) (first-append ls b)
 pub first-fine : (a b : List Line) → first a ≡ fine → first (a ++ b) ≡ first b
 first-fine a b e = first-append a b ∙ ap (λ (v : Verdict). orElse v (first b)) e
 
-pub first-refused : (a b : List Line) (n p : ℕ) → first a ≡ refused n p → first (a ++ b) ≡ refused n p
-first-refused a b n p e = first-append a b ∙ ap (λ (v : Verdict). orElse v (first b)) e
+-- ---- a table read line by line, by calls of `line`
 
-pub first-append-fine : (a b : List Line) → first (a ++ b) ≡ fine → (first a ≡ fine) × (first b ≡ fine)
-first-append-fine a b e = go (first a) (sym (first-append a b) ∙ e)
-  where
-    go : (v : Verdict) → orElse v (first b) ≡ fine → (v ≡ fine) × (first b ≡ fine)
-    go fine e = (refl, e)
-    go (refused n p) e = absurd (fine-not-refused n p e)
+-- v is what the lines a give
+pub record Gives (a : List Line) (v : Verdict) : Type 0 where
+  pub is : v ≡ first a
 
--- ---- tables one after another, each tested by a call that answers r
+-- no line is read yet
+pub none-yet : Gives [] fine
+unfolding first
+none-yet = record { is = refl }
 
-pub passed : (a b : List Line) (r : Front) → r ≡ Fine → told r ≡ first a → first (a ++ b) ≡ first b
-passed a b r q e = first-fine a b (sym e ∙ ap told q)
-
-pub stopped : (a b : List Line) (r : Front) (n p : ℕ) → r ≡ Refused n p → told r ≡ first a → first (a ++ b) ≡ told r
-stopped a b r n p q e = first-refused a b n p (sym e ∙ ap told q) ∙ sym (ap told q)
-
--- the tables of the front, from the first on
-pub front-tables : (sheet load : List ℕ)
-    → front sheet load
-    ≡ first
-    (lengthTable (length sheet) (length load)
-    ++ (passwordTable (words sheet)
-    ++ (sizeTable (heraldOf (words sheet)) ++ (loadTable (heraldOf (words sheet)) load ++ pageTable (pageCount (words sheet))))))
-unfolding front frontTable
-front-tables sheet load = simp append-assoc
+-- one more line: a call gives w, and u is the line's test as the table has it
+pub one-more : {a : List Line} {v w : Verdict} {t : Bool} (n p : ℕ) (u : Bool)
+    → Gives a v → w ≡ orElse v (first (refuse n p t ∷ [])) → t ≡ u → Gives (a ++ (refuse n p u ∷ [])) w
+one-more {a} {v} {w} {t} n p u h e q =
+    record { is = e ∙ ap₂ (λ (x : Verdict) (y : Bool). orElse x (first (refuse n p y ∷ []))) (h .is) q ∙ sym (first-append a (refuse n p u ∷ [])) }
 
 -- ---- what passes
 

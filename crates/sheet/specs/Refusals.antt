@@ -9,6 +9,7 @@ use Rattle.words.specs.Words.{words, at, bytesOf}
 use Rattle.words.specs.Load.{loadCount}
 use Rattle.sheet.specs.Herald.{Herald, heraldOf, pageCount, rowLength}
 
+-- a line of the table: its test, and the refusal's number and place
 pub record Line : Type 0 where
   pub when : Bool
   pub number : ℕ
@@ -17,6 +18,7 @@ pub record Line : Type 0 where
 abbrev pub refuse : ℕ → ℕ → Bool → Line
 refuse n p t = record { when = t; number = n; place = p }
 
+-- nothing wrong, or a refusal
 pub data Verdict : Type 0 where
   fine : Verdict
   refused : (number place : ℕ) → Verdict
@@ -24,6 +26,11 @@ pub data Verdict : Type 0 where
 unfoldable pub first : List Line → Verdict
 first [] = fine
 first (l ∷ ls) = cond (l .when) (refused (l .number) (l .place)) (first ls)
+
+-- the first verdict, unless it is fine
+abbrev pub orElse : Verdict → Verdict → Verdict
+orElse fine v = v
+orElse (refused n p) v = refused n p
 
 -- ---- by number
 
@@ -82,6 +89,7 @@ frontTable sheet load =
     let ws = words sheet in
     lengthTable (length sheet) (length load) ++ passwordTable ws ++ sizeTable (heraldOf ws) ++ loadTable (heraldOf ws) load ++ pageTable (pageCount ws)
 
+-- what the table says
 unfoldable pub front : List ℕ → List ℕ → Verdict
 front sheet load = first (frontTable sheet load)
 
@@ -100,6 +108,8 @@ abbrev twelve : ℕ → ℕ → ℕ → Verdict
 twelve password band pages = front (bytesOf (password ∷ 1 ∷ 0 ∷ 0 ∷ 0 ∷ 1 ∷ 1 ∷ band ∷ 0 ∷ 0 ∷ 1 ∷ pages ∷ [])) []
 
 pub record RefusalCases : Type 0 where
+  pub first-kept : orElse (refused 2 0) (refused 3 5) ≡ refused 2 0
+  pub next-given : orElse fine (refused 3 5) ≡ refused 3 5
   pub odd-sheet : front (1 ∷ []) [] ≡ refused 1 0
   pub odd-load : front [] (1 ∷ []) ≡ refused 1 0
   pub length-limits : first (lengthTable 16777216 16777216) ≡ fine

@@ -63,7 +63,7 @@ returns-3 c = λ s.
     let x = c .before .before .before .before in
     let a = x .before .before .before .before .before .args in
     let n = c .before .before .r .given in
-    whole-at (a .p) 3 _ _ _
+    whole-at (a .p) 3 _ _ _ _
     (load-runs-there (a .load .now) (words (a .args .now)) _ (x .before .long .ensures) (n .0 .0) (c .word .ensures)
     (omega (arith, length-words (a .args .now))) (words-some _ _ (sym (n .1) ∙ x .group-extent .ensures)))
     refl

@@ -44,7 +44,7 @@ unfolding commandOf
 returns-4 c = λ s l.
     let e = c .before .before in
     let a = e .before .before .before .before .args in
-    whole-at (a .p) 2 _ _ _
+    whole-at (a .p) 2 _ _ _ _
     (priority-read (words (a .args .now)) (a .least) (omega (arith, length-words (a .args .now))) (e .before .word .ensures) (e .if2 .left)
     (c .before .long .ensures) (c .if3 .left))
     refl

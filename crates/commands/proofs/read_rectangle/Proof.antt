@@ -36,7 +36,7 @@ unfolding commandOf
 returns-2 c = λ s l.
     let e = c .before .before .before .before in
     let a = e .before .before .args in
-    whole-at (a .p) 4 _ _ _
+    whole-at (a .p) 4 _ _ _ _
     (rectangle-read (words (a .args .now)) (c .before .before .before .word .ensures) (c .before .before .word2 .ensures)
     (c .before .word3 .ensures) (c .word4 .ensures) (omega (arith, length-words (a .args .now))))
     refl

@@ -54,7 +54,7 @@ returns-2 c = λ l.
     let b = x .before .before .before in
     let a = b .args in
     let n = c .before .before .before .r .given in
-    whole-at (a .p) _ _ _ _
+    whole-at (a .p) _ _ _ _ _
     (samples-there (a .sheet .now) (a .args .now) (a .p) (a .end) (b .pre .0) (b .pre .1) (b .pre .2) (n .0 .0) (c .before .word .ensures) (c .word2 .ensures)
     (words-some _ _ (sym (n .1) ∙ x .array-extent .ensures)))
     (omega arith)

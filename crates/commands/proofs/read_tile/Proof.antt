@@ -115,7 +115,7 @@ returns-6 c = λ s.
     let e = x .before .before in
     let a = e .before .before .before .before .before .args in
     let n = d .before .before .before .r .given in
-    whole-at (a .p) 3 _ _ _
+    whole-at (a .p) 3 _ _ _ _
     (tile-there (a .load .now) (words (a .args .now)) _ _ (x .before .long .ensures) (omega (arith, length-words (a .args .now))) (e .before .word .ensures)
     (e .if2 .left) (n .0 .0) (words-some _ _ (sym (n .1) ∙ x .array-extent .ensures)) (d .before .word2 .ensures) (d .if3 .left)
     (c .before .word3 .ensures) (c .if4 .left))

@@ -48,7 +48,7 @@ unfolding commandOf
 returns-3 c = λ s l.
     let e = c .before .before .before .before .before in
     let a = e .before .before .before .before .args in
-    whole-at (a .p) 6 _ _ _
+    whole-at (a .p) 6 _ _ _ _
     (trapezoid-read (words (a .args .now)) (c .before .before .before .before .word2 .ensures) (e .before .word .ensures)
     (c .before .before .before .word3 .ensures) (c .before .before .word4 .ensures) (c .before .word5 .ensures) (c .word6 .ensures)
     (omega (arith, length-words (a .args .now))) (e .if2 .left))
