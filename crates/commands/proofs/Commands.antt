@@ -5,7 +5,6 @@ use mathlib.Core.List.{List, []}
 use mathlib.Core.Option.{Option, none, some}
 use Prim.Native.Nat.{ℕ, zero, suc, _+_, _-_, _/_, _<_, _≤_}
 use native.Mathlib.Decide.{decLe, decLt}
-use native.Mathlib.Nat.{add-assoc}
 use native.Mathlib.Omega.{arith}
 use borrow.Author.Tests.{ltb-true, lt-ltb, le-ltb, le-leb, lt-leb, eq-eqb, ne-eqb}
 use lib.Dec.{leb, ltb, eqb}
@@ -165,7 +164,7 @@ samples-past ws x = sheet-past arrays 2 ws _ x
 -- `args` are the words after the code word at place p, up to the band's end e
 module _ (sheet args : List ℕ) (p e : ℕ) (h : p < e) (l : e ≤ length (words sheet)) (a : args ≡ partOf sheet (p + 1) e) where
   pub runs-there : {sMin : ℕ} (n : ℕ) → sMin ≡ at (words args) 0 → groupExtent (drop 1 (words args)) ≡ some n
-      → runsFrom (words args) ≡ taken (paint (runs sMin (words (partOf sheet (p + 2) (p + 2 + n))))) (inBand 2) (1 + n)
+      → runsFrom (words args) ≡ taken (paint (runs sMin (words (partOf sheet (p + 2) (p + 2 + n))))) (inBand 2 n) (1 + n)
   unfolding runsFrom
   runs-there n m x =
       let part = sheet-part groups sheet args (p + 1) e 1 (p + 2) n a l (omega arith) x in
@@ -176,7 +175,7 @@ module _ (sheet args : List ℕ) (p e : ℕ) (h : p < e) (l : e ≤ length (word
   runs-end n x = sheet-end groups sheet args (p + 1) e 1 (p + 2) n a (omega arith) l (omega arith) x
 
   pub samples-there : {sMin fMin : ℕ} (n : ℕ) → sMin ≡ at (words args) 0 → fMin ≡ at (words args) 1 → arrayExtent (drop 2 (words args)) ≡ some n
-      → samplesFrom (words args) ≡ taken (paint (samples sMin fMin (words (partOf sheet (p + 3) (p + 3 + n))))) (inBand 3) (2 + n)
+      → samplesFrom (words args) ≡ taken (paint (samples sMin fMin (words (partOf sheet (p + 3) (p + 3 + n))))) (inBand 3 n) (2 + n)
   unfolding samplesFrom
   samples-there n m f x =
       let part = sheet-part arrays sheet args (p + 1) e 2 (p + 3) n a l (omega arith) x in
@@ -194,7 +193,7 @@ module _ (load ws : List ℕ) (v : ℕ) (h : v ≡ longAt ws 0) where
   load-runs-past l x = load-measured groups 3 load ws v (longAt ws 0) _ none l h x
 
   pub load-runs-there : {sMin : ℕ} (n : ℕ) → sMin ≡ at ws 2 → 3 ≤ length ws → groupExtent (drop (2 + v) (words load)) ≡ some n
-      → loadRunsFrom (loadWords load) ws ≡ taken (paint (runs sMin (words (partOf load (2 + v) (2 + v + n))))) (inLoad v) 3
+      → loadRunsFrom (loadWords load) ws ≡ taken (paint (runs sMin (words (partOf load (2 + v) (2 + v + n))))) (inLoad v n) 3
   unfolding loadRunsFrom
   load-runs-there n m l x =
       let part = load-part groups load v (longAt ws 0) n h x in
@@ -205,7 +204,7 @@ module _ (load ws : List ℕ) (v : ℕ) (h : v ≡ longAt ws 0) where
   load-samples-past l x = load-measured arrays 4 load ws v (longAt ws 0) _ none l h x
 
   pub load-samples-there : {sMin fMin : ℕ} (n : ℕ) → sMin ≡ at ws 2 → fMin ≡ at ws 3 → 4 ≤ length ws → arrayExtent (drop (2 + v) (words load)) ≡ some n
-      → loadSamplesFrom (loadWords load) ws ≡ taken (paint (samples sMin fMin (words (partOf load (2 + v) (2 + v + n))))) (inLoad v) 4
+      → loadSamplesFrom (loadWords load) ws ≡ taken (paint (samples sMin fMin (words (partOf load (2 + v) (2 + v + n))))) (inLoad v n) 4
   unfolding loadSamplesFrom
   load-samples-there n m f l x =
       let part = load-part arrays load v (longAt ws 0) n h x in
@@ -232,7 +231,7 @@ module _ (load ws : List ℕ) (v mode : ℕ) (h : v ≡ longAt ws 1) (l : 3 ≤ 
   -- after the tests on its words, the tile's array is measured
   tile-measured : (x : Option ℕ) → arrayExtent (drop (2 + v + 3) (words load)) ≡ x
       → tileFrom (loadWords load) ws
-      ≡ extended 9 x (λ n. refuseIf (sideless (tileAt load ws)) 9 (taken (tiled (eqb (at ws 0) 1) (take (3 + n) (tileAt load ws))) (inLoad (longAt ws 1)) 3))
+      ≡ extended 9 x (λ n. refuseIf (sideless (tileAt load ws)) 9 (taken (tiled (eqb (at ws 0) 1) (take (3 + n) (tileAt load ws))) (inLoad (longAt ws 1) (3 + n)) 3))
   unfolding tileFrom
   tile-measured x e = rw (le-leb 3 (length ws) l, le-ltb 1 (at ws 0) (omega arith), ← tile-from 3, e) refl
 
@@ -252,16 +251,15 @@ module _ (load ws : List ℕ) (v mode : ℕ) (h : v ≡ longAt ws 1) (l : 3 ≤ 
         tile-measured (some n) x ∙ rw (ne-eqb _ 0 (λ y. s (w ∙ tile-word 3 ∙ y)), eq-eqb _ 0 (sym (tile-word 4) ∙ sym d ∙ z)) refl
 
     -- its words are those of a part of the load
-    tile-part : words (partOf load (2 + v) (2 + v + 3 + n)) ≡ take (3 + n) (tileAt load ws)
+    tile-part : words (partOf load (2 + v) (2 + v + (3 + n))) ≡ take (3 + n) (tileAt load ws)
     tile-part =
         let f : (n ≡ _) × (n ≤ length (drop (2 + v + 3) (words load))) = array-fits (drop (2 + v + 3) (words load)) n x in
         let r : 3 + n ≤ length (drop (2 + v) (words load)) = omega (arith, length-drop (2 + v) (words load), length-drop (2 + v + 3) (words load)) in
-        ap (λ (e : ℕ). words (partOf load (2 + v) e)) (add-assoc (2 + v) 3 n)
-        ∙ part-taken load (2 + v) (3 + n) r ∙ ap (take (3 + n)) (load-from load v _ h)
+        part-taken load (2 + v) (3 + n) r ∙ ap (take (3 + n)) (load-from load v _ h)
 
     -- it has both
     pub tile-there : {dots : ℕ} → (lines ≡ 0 → ⊥) → dots ≡ at (words load) (2 + v + 4) → (dots ≡ 0 → ⊥)
-        → tileFrom (loadWords load) ws ≡ taken (tiled (eqb mode 1) (words (partOf load (2 + v) (2 + v + 3 + n)))) (inLoad v) 3
+        → tileFrom (loadWords load) ws ≡ taken (tiled (eqb mode 1) (words (partOf load (2 + v) (2 + v + (3 + n))))) (inLoad v (3 + n)) 3
     tile-there s d t =
         tile-measured (some n) x
         ∙ rw (ne-eqb _ 0 (λ y. s (w ∙ tile-word 3 ∙ y)), ne-eqb _ 0 (λ y. t (d ∙ tile-word 4 ∙ y)), ← m, tile-part, h) refl

@@ -12,60 +12,56 @@ use Rattle.commands.specs.declared.Command.the-variants.{Priority, Ink, 
 use Rattle.commands.specs.declared.Read as code-read
 use Rattle.commands.specs.declared.Read.the-variants.{Whole, Refused}
 
--- the bytes of the words that a command names in one of the two files; none where it names none
-unfoldable pub partFor : List ℕ → List ℕ → code.Command → List ℕ
-partFor sheet load (Priority value) = []
-partFor sheet load Ink = []
-partFor sheet load Clear = []
-partFor sheet load (Tile see from to) = partOf load from to
-partFor sheet load (Rectangle sMin sSize fMin fSize) = []
-partFor sheet load (Trapezoid sMin sSize fMin fSize fMinLast fSizeLast) = []
-partFor sheet load (Runs sMin from to) = partOf sheet from to
-partFor sheet load (LoadRuns sMin from to) = partOf load from to
-partFor sheet load (Samples sMin fMin from to) = partOf sheet from to
-partFor sheet load (LoadSamples sMin fMin from to) = partOf load from to
+-- the words that a command names: none, or those from one place of the sheet or of the load file up to another
+pub data Named : Type 0 where
+  nothing : Named
+  ofSheet : (from to : ℕ) → Named
+  ofLoad : (from to : ℕ) → Named
+
+abbrev pub named : code.Command → Named
+named (Priority value) = nothing
+named Ink = nothing
+named Clear = nothing
+named (Tile see from to) = ofLoad from to
+named (Rectangle sMin sSize fMin fSize) = nothing
+named (Trapezoid sMin sSize fMin fSize fMinLast fSizeLast) = nothing
+named (Runs sMin from to) = ofSheet from to
+named (LoadRuns sMin from to) = ofLoad from to
+named (Samples sMin fMin from to) = ofSheet from to
+named (LoadSamples sMin fMin from to) = ofLoad from to
+
+-- their bytes
+unfoldable pub partFor : (sheet load : List ℕ) → Named → List ℕ
+partFor sheet load nothing = []
+partFor sheet load (ofSheet from to) = partOf sheet from to
+partFor sheet load (ofLoad from to) = partOf load from to
 
 -- the command itself, with the words that it names
-unfoldable pub commandOf : List ℕ → List ℕ → code.Command → Command
-commandOf sheet load (Priority value) = priority value
-commandOf sheet load Ink = ink
-commandOf sheet load Clear = clear
-commandOf sheet load (Tile see from to) = tiled see (words (partOf load from to))
-commandOf sheet load (Rectangle sMin sSize fMin fSize) = paint (rectangle sMin sSize fMin fSize)
-commandOf sheet load (Trapezoid sMin sSize fMin fSize fMinLast fSizeLast) = paint (trapezoid sMin sSize fMin fSize fMinLast fSizeLast)
-commandOf sheet load (Runs sMin from to) = paint (runs sMin (words (partOf sheet from to)))
-commandOf sheet load (LoadRuns sMin from to) = paint (runs sMin (words (partOf load from to)))
-commandOf sheet load (Samples sMin fMin from to) = paint (samples sMin fMin (words (partOf sheet from to)))
-commandOf sheet load (LoadSamples sMin fMin from to) = paint (samples sMin fMin (words (partOf load from to)))
+abbrev pub withWords : code.Command → List ℕ → Command
+withWords (Priority value) ws = priority value
+withWords Ink ws = ink
+withWords Clear ws = clear
+withWords (Tile see from to) ws = tiled see ws
+withWords (Rectangle sMin sSize fMin fSize) ws = paint (rectangle sMin sSize fMin fSize)
+withWords (Trapezoid sMin sSize fMin fSize fMinLast fSizeLast) ws = paint (trapezoid sMin sSize fMin fSize fMinLast fSizeLast)
+withWords (Runs sMin from to) ws = paint (runs sMin ws)
+withWords (LoadRuns sMin from to) ws = paint (runs sMin ws)
+withWords (Samples sMin fMin from to) ws = paint (samples sMin fMin ws)
+withWords (LoadSamples sMin fMin from to) ws = paint (samples sMin fMin ws)
 
--- the file and the place in it at which the words that a command names begin
-pub data Start : Type 0 where
-  nothing : Start
-  ofSheet : (place : ℕ) → Start
-  ofLoad : (place : ℕ) → Start
+unfoldable pub commandOf : (sheet load : List ℕ) → code.Command → Command
+commandOf sheet load c = withWords c (words (partFor sheet load (named c)))
 
-abbrev pub startOf : code.Command → Start
-startOf (Priority value) = nothing
-startOf Ink = nothing
-startOf Clear = nothing
-startOf (Tile see from to) = ofLoad from
-startOf (Rectangle sMin sSize fMin fSize) = nothing
-startOf (Trapezoid sMin sSize fMin fSize fMinLast fSizeLast) = nothing
-startOf (Runs sMin from to) = ofSheet from
-startOf (LoadRuns sMin from to) = ofLoad from
-startOf (Samples sMin fMin from to) = ofSheet from
-startOf (LoadSamples sMin fMin from to) = ofLoad from
-
--- A command with the start of its words and the place after it, or a refusal's number and place
+-- A command with the words that it names and the place after it, or a refusal's number and place
 pub data Placed : Type 0 where
-  whole : Command → Start → (next : ℕ) → Placed
+  whole : Command → Named → (next : ℕ) → Placed
   refused : (number place : ℕ) → Placed
 
 -- a source, where the code word has place p; in the load file addresses begin after the two words of the count
-abbrev pub located : ℕ → Source → Start
+abbrev pub located : ℕ → Source → Named
 located p nowhere = nothing
-located p (inBand offset) = ofSheet (p + offset)
-located p (inLoad address) = ofLoad (2 + address)
+located p (inBand offset n) = ofSheet (p + offset) (p + offset + n)
+located p (inLoad address n) = ofLoad (2 + address) (2 + address + n)
 
 -- what was read where the code word has place p
 abbrev pub placed : ℕ → Taken → Placed
@@ -74,7 +70,7 @@ placed p (broken number offset) = refused number (p + offset)
 
 -- what the reader's answer says
 abbrev pub told : List ℕ → List ℕ → code-read.Read → Placed
-told sheet load (Whole c next) = whole (commandOf sheet load c) (startOf c) next
+told sheet load (Whole c next) = whole (commandOf sheet load c) (named c) next
 told sheet load (Refused number place) = refused number place
 
 -- ---- worked cases
@@ -91,24 +87,25 @@ tileFile = bytesOf (1 ∷ 2 ∷ 3 ∷ 1 ∷ 4 ∷ 0xA000 ∷ [])
 pub record AnswerCases : Type 0 where
   pub next-place : placed 14 (taken ink nowhere 0) ≡ whole ink nothing 15
   pub after-arguments : placed 14 (taken (priority 5) nowhere 2) ≡ whole (priority 5) nothing 17
-  pub place-in-sheet : placed 14 (taken ink (inBand 2) 0) ≡ whole ink (ofSheet 16) 15
-  pub place-in-load : placed 14 (taken ink (inLoad 6) 0) ≡ whole ink (ofLoad 8) 15
+  pub place-in-sheet : placed 14 (taken ink (inBand 2 3) 0) ≡ whole ink (ofSheet 16 19) 15
+  pub place-in-load : placed 14 (taken ink (inLoad 6 3) 0) ≡ whole ink (ofLoad 8 11) 15
   pub at-code : placed 14 (broken 7 0) ≡ refused 7 14
   pub offset-counted : placed 14 (broken 8 3) ≡ refused 8 17
   pub answer-whole : told [] [] (Whole Clear 9) ≡ whole clear nothing 9
-  pub tile-start : startOf (Tile true 8 14) ≡ ofLoad 8
-  pub runs-start : startOf (Runs 0 16 19) ≡ ofSheet 16
-  pub load-runs-start : startOf (LoadRuns 0 16 19) ≡ ofLoad 16
-  pub samples-start : startOf (Samples 0 0 17 20) ≡ ofSheet 17
-  pub load-samples-start : startOf (LoadSamples 0 0 17 20) ≡ ofLoad 17
+  pub tile-named : named (Tile true 8 14) ≡ ofLoad 8 14
+  pub runs-named : named (Runs 0 16 19) ≡ ofSheet 16 19
+  pub load-runs-named : named (LoadRuns 0 16 19) ≡ ofLoad 16 19
+  pub samples-named : named (Samples 0 0 17 20) ≡ ofSheet 17 20
+  pub load-samples-named : named (LoadSamples 0 0 17 20) ≡ ofLoad 17 20
+  pub priority-named : named (Priority 5) ≡ nothing
+  pub ink-named : named Ink ≡ nothing
+  pub clear-named : named Clear ≡ nothing
+  pub rectangle-named : named (Rectangle 0 1 0 1) ≡ nothing
+  pub trapezoid-named : named (Trapezoid 0 2 0 1 0 1) ≡ nothing
   pub answer-refused : told [] [] (Refused 6 9) ≡ refused 6 9
-  -- words 1 and 2 of either file, of the load for a tile and for what comes from the load
-  pub tile-words : partFor sheetFile loadFile (Tile true 1 3) ≡ bytesOf (0xB000 ∷ 0xC000 ∷ [])
-  pub runs-words : partFor sheetFile loadFile (Runs 0 1 3) ≡ bytesOf (4 ∷ 0x8002 ∷ [])
-  pub load-runs-words : partFor sheetFile loadFile (LoadRuns 0 1 3) ≡ bytesOf (0xB000 ∷ 0xC000 ∷ [])
-  pub samples-words : partFor sheetFile loadFile (Samples 0 0 1 3) ≡ bytesOf (4 ∷ 0x8002 ∷ [])
-  pub load-samples-words : partFor sheetFile loadFile (LoadSamples 0 0 1 3) ≡ bytesOf (0xB000 ∷ 0xC000 ∷ [])
-  pub no-words : partFor sheetFile loadFile (Rectangle 0 1 0 1) ≡ []
+  pub words-of-sheet : partFor sheetFile loadFile (ofSheet 1 3) ≡ bytesOf (4 ∷ 0x8002 ∷ [])
+  pub words-of-load : partFor sheetFile loadFile (ofLoad 1 3) ≡ bytesOf (0xB000 ∷ 0xC000 ∷ [])
+  pub no-words : partFor sheetFile loadFile nothing ≡ []
   pub priority-is : commandOf sheetFile loadFile (Priority 5) ≡ priority 5
   pub ink-is : commandOf sheetFile loadFile Ink ≡ ink
   pub clear-is : commandOf sheetFile loadFile Clear ≡ clear

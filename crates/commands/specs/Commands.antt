@@ -27,11 +27,11 @@ pub data Command : Type 0 where
   transparent : (tile : List ℕ) → Command
   paint : Mask → Command
 
--- where the group, array or tile of a command begins: so many words after the code word, or at an address of the load
+-- where the words of a command's group, array or tile stand: so many words after the code word, or at an address of the load
 pub data Source : Type 0 where
   nowhere : Source
-  inBand : (offset : ℕ) → Source
-  inLoad : (address : ℕ) → Source
+  inBand : (offset words : ℕ) → Source
+  inLoad : (address words : ℕ) → Source
 
 -- A command is taken whole, with its source and the number of words after its code word; or it is refused, with a number and the offset of its
 -- place from the code word
@@ -75,7 +75,7 @@ tileFrom load args =
     let tile = drop (longAt args 1) load in
     needs 3 args (refuseIf (ltb 1 (at args 0)) 8
     (extended 9 (arrayExtent (drop 3 tile)) (λ n. refuseIf (sideless tile) 9
-    (taken (tiled (eqb (at args 0) 1) (take (3 + n) tile)) (inLoad (longAt args 1)) 3))))
+    (taken (tiled (eqb (at args 0) 1) (take (3 + n) tile)) (inLoad (longAt args 1) (3 + n)) 3))))
 
 -- 5: sMin, sSize, fMin, fSize
 unfoldable pub rectangleFrom : List ℕ → Taken
@@ -91,25 +91,25 @@ trapezoidFrom args =
 unfoldable pub runsFrom : List ℕ → Taken
 runsFrom args =
     let group = drop 1 args in
-    needs 1 args (extended 6 (groupExtent group) (λ n. taken (paint (runs (at args 0) (take n group))) (inBand 2) (1 + n)))
+    needs 1 args (extended 6 (groupExtent group) (λ n. taken (paint (runs (at args 0) (take n group))) (inBand 2 n) (1 + n)))
 
 -- 8: long address, sMin
 unfoldable pub loadRunsFrom : List ℕ → List ℕ → Taken
 loadRunsFrom load args =
     let group = drop (longAt args 0) load in
-    needs 3 args (extended 9 (groupExtent group) (λ n. taken (paint (runs (at args 2) (take n group))) (inLoad (longAt args 0)) 3))
+    needs 3 args (extended 9 (groupExtent group) (λ n. taken (paint (runs (at args 2) (take n group))) (inLoad (longAt args 0) n) 3))
 
 -- 9: sMin, fMin, sample array
 unfoldable pub samplesFrom : List ℕ → Taken
 samplesFrom args =
     let array = drop 2 args in
-    needs 2 args (extended 6 (arrayExtent array) (λ n. taken (paint (samples (at args 0) (at args 1) (take n array))) (inBand 3) (2 + n)))
+    needs 2 args (extended 6 (arrayExtent array) (λ n. taken (paint (samples (at args 0) (at args 1) (take n array))) (inBand 3 n) (2 + n)))
 
 -- 10: long address, sMin, fMin
 unfoldable pub loadSamplesFrom : List ℕ → List ℕ → Taken
 loadSamplesFrom load args =
     let array = drop (longAt args 0) load in
-    needs 4 args (extended 9 (arrayExtent array) (λ n. taken (paint (samples (at args 2) (at args 3) (take n array))) (inLoad (longAt args 0)) 4))
+    needs 4 args (extended 9 (arrayExtent array) (λ n. taken (paint (samples (at args 2) (at args 3) (take n array))) (inLoad (longAt args 0) n) 4))
 
 -- by its code word; in one command 7, 6, 8, 9
 unfoldable pub command : List ℕ → ℕ → ℕ → List ℕ → Taken
@@ -148,8 +148,8 @@ pub record CommandCases : Type 0 where
   pub priority-cut : commandIn [] 0 (1 ∷ 5 ∷ []) ≡ broken 6 0
   pub ink-alone : commandIn [] 0 (2 ∷ []) ≡ taken ink nowhere 0
   pub clear-alone : commandIn [] 0 (3 ∷ []) ≡ taken clear nowhere 0
-  pub tile-opaque : commandIn exampleLoad 0 (4 ∷ 0 ∷ 0 ∷ 0 ∷ []) ≡ taken (opaque exampleTile) (inLoad 0) 3
-  pub tile-transparent : commandIn exampleLoad 0 (4 ∷ 1 ∷ 0 ∷ 0 ∷ []) ≡ taken (transparent exampleTile) (inLoad 0) 3
+  pub tile-opaque : commandIn exampleLoad 0 (4 ∷ 0 ∷ 0 ∷ 0 ∷ []) ≡ taken (opaque exampleTile) (inLoad 0 6) 3
+  pub tile-transparent : commandIn exampleLoad 0 (4 ∷ 1 ∷ 0 ∷ 0 ∷ []) ≡ taken (transparent exampleTile) (inLoad 0 6) 3
   pub tile-cut-before-mode : commandIn exampleLoad 0 (4 ∷ 2 ∷ 0 ∷ []) ≡ broken 6 0
   pub tile-mode : commandIn exampleLoad 0 (4 ∷ 2 ∷ 0 ∷ 0 ∷ []) ≡ broken 8 0
   pub tile-past-load : commandIn [] 0 (4 ∷ 0 ∷ 0 ∷ 0 ∷ []) ≡ broken 9 0
@@ -162,15 +162,15 @@ pub record CommandCases : Type 0 where
   pub trapezoid-cut : commandIn [] 0 (6 ∷ 1 ∷ 1 ∷ 3 ∷ 4 ∷ 5 ∷ []) ≡ broken 6 0
   pub trapezoid-one-row : commandIn [] 0 (6 ∷ 1 ∷ 1 ∷ 3 ∷ 4 ∷ 5 ∷ 6 ∷ []) ≡ broken 8 0
   pub trapezoid-no-rows : commandIn [] 0 (6 ∷ 1 ∷ 0 ∷ 3 ∷ 4 ∷ 5 ∷ 6 ∷ []) ≡ taken (paint (trapezoid 1 0 3 4 5 6)) nowhere 6
-  pub runs-read : commandIn [] 0 (7 ∷ 9 ∷ 1 ∷ 4 ∷ 0x8002 ∷ 99 ∷ []) ≡ taken (paint (runs 9 (1 ∷ 4 ∷ 0x8002 ∷ []))) (inBand 2) 4
+  pub runs-read : commandIn [] 0 (7 ∷ 9 ∷ 1 ∷ 4 ∷ 0x8002 ∷ 99 ∷ []) ≡ taken (paint (runs 9 (1 ∷ 4 ∷ 0x8002 ∷ []))) (inBand 2 3) 4
   pub runs-cut : commandIn [] 0 (7 ∷ 9 ∷ 1 ∷ 4 ∷ []) ≡ broken 6 0
   pub runs-no-size : commandIn [] 0 (7 ∷ 9 ∷ []) ≡ broken 6 0
-  pub load-runs-read : commandIn exampleLoad 0 (8 ∷ 6 ∷ 0 ∷ 9 ∷ []) ≡ taken (paint (runs 9 (1 ∷ 4 ∷ 0x8002 ∷ []))) (inLoad 6) 3
+  pub load-runs-read : commandIn exampleLoad 0 (8 ∷ 6 ∷ 0 ∷ 9 ∷ []) ≡ taken (paint (runs 9 (1 ∷ 4 ∷ 0x8002 ∷ []))) (inLoad 6 3) 3
   pub load-runs-cut : commandIn exampleLoad 0 (8 ∷ 6 ∷ 0 ∷ []) ≡ broken 6 0
   pub load-runs-past : commandIn exampleLoad 0 (8 ∷ 12 ∷ 0 ∷ 9 ∷ []) ≡ broken 9 0
-  pub samples-read : commandIn [] 0 (9 ∷ 8 ∷ 7 ∷ 1 ∷ 4 ∷ 0xF000 ∷ 99 ∷ []) ≡ taken (paint (samples 8 7 (1 ∷ 4 ∷ 0xF000 ∷ []))) (inBand 3) 5
+  pub samples-read : commandIn [] 0 (9 ∷ 8 ∷ 7 ∷ 1 ∷ 4 ∷ 0xF000 ∷ 99 ∷ []) ≡ taken (paint (samples 8 7 (1 ∷ 4 ∷ 0xF000 ∷ []))) (inBand 3 3) 5
   pub samples-cut : commandIn [] 0 (9 ∷ 8 ∷ 7 ∷ 1 ∷ 17 ∷ 0xF000 ∷ []) ≡ broken 6 0
-  pub load-samples-read : commandIn exampleLoad 0 (10 ∷ 9 ∷ 0 ∷ 8 ∷ 7 ∷ []) ≡ taken (paint (samples 8 7 (1 ∷ 4 ∷ 0xF000 ∷ []))) (inLoad 9) 4
+  pub load-samples-read : commandIn exampleLoad 0 (10 ∷ 9 ∷ 0 ∷ 8 ∷ 7 ∷ []) ≡ taken (paint (samples 8 7 (1 ∷ 4 ∷ 0xF000 ∷ []))) (inLoad 9 3) 4
   pub load-samples-cut : commandIn exampleLoad 0 (10 ∷ 9 ∷ 0 ∷ 8 ∷ []) ≡ broken 6 0
   pub load-samples-past : commandIn exampleLoad 0 (10 ∷ 10 ∷ 0 ∷ 8 ∷ 7 ∷ []) ≡ broken 9 0
   pub unknown : commandIn [] 0 (11 ∷ []) ≡ broken 7 0

@@ -8,7 +8,7 @@ ghost use Rattle.words.specs.Words.{words};
 ghost use Rattle.words.specs.Parts.{partOf};
 ghost use Rattle.words.specs.Load.{loadWords};
 ghost use Rattle.commands.specs.Commands.{priorityFrom, tileFrom, rectangleFrom, trapezoidFrom, runsFrom, loadRunsFrom, samplesFrom, loadSamplesFrom, commandIn};
-ghost use Rattle.commands.specs.Answers.{partFor, placed, told};
+ghost use Rattle.commands.specs.Answers.{named, partFor, placed, told};
 use words::Extent;
 use words::array_extent;
 use words::group_extent;
@@ -117,7 +117,7 @@ fn read_tile(args: &[u8], load: &[u8], p: usize) -> Read
         Command::Tile {
             transparent: mode == 1,
             from,
-            to: from + 3 + n,
+            to: from + (3 + n),
         },
         p + 4,
     )
@@ -283,7 +283,7 @@ pub fn read_command(sheet: &[u8], load: &[u8], p: usize, end: usize, least: u32)
 // The words that a command names, uncopied: a part of the sheet, or of the load for a tile and for what comes from the load. Empty where it
 // names none, or its range is not in the file.
 pub fn mask_words<'a>(sheet: &'a [u8], load: &'a [u8], c: Command) -> &'a [u8]
-    ensures { λ r. ⌜ now r ≡ partFor (now (sheet .entry)) (now (load .entry)) c ⌝ }
+    ensures { λ r. ⌜ now r ≡ partFor (now (sheet .entry)) (now (load .entry)) (named c) ⌝ }
 {
     match c {
         Command::Tile { from, to, .. } => part(load, from, to),

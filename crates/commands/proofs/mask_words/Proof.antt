@@ -5,7 +5,7 @@ use Prim.Native.Nat.{ℕ}
 use native.Mathlib.Omega.{arith}
 use types.Run.{OneOf, miss}
 use denote.Enum.Declared.{tagOf}
-use Rattle.commands.specs.Answers.{partFor}
+use Rattle.commands.specs.Answers.{named, partFor}
 use Rattle.commands.specs.declared.Command as code
 use Rattle.commands.specs.declared.Command.the-variants.{Priority, Ink, Clear, Tile, Rectangle, Trapezoid, Runs, LoadRuns, Samples, LoadSamples}
 use Rattle.commands.proofs.Command.{the-type}
@@ -17,7 +17,7 @@ abbrev others : List ℕ
 others = 0 ∷ 1 ∷ 2 ∷ 4 ∷ 5 ∷ []
 
 -- whose part is empty
-names-none : (sheet load : List ℕ) (c : code.Command) → OneOf others (tagOf the-type c) → [] ≡ partFor sheet load c
+names-none : (sheet load : List ℕ) (c : code.Command) → OneOf others (tagOf the-type c) → [] ≡ partFor sheet load (named c)
 unfolding partFor
 names-none sheet load (Priority value) h = refl
 names-none sheet load Ink h = refl

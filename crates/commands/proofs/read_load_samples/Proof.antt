@@ -6,7 +6,7 @@ use Rattle.words.specs.Words.{words}
 use Rattle.words.proofs.Words.{length-words}
 use Rattle.words.proofs.Answers.{words-some, past-none}
 use Rattle.commands.specs.Commands.{loadSamplesFrom}
-use Rattle.commands.specs.Answers.{commandOf}
+use Rattle.commands.specs.Answers.{commandOf, partFor}
 use Rattle.commands.proofs.Commands.{too-few, array-room, load-samples-past, load-samples-there}
 use Rattle.commands.proofs.Answers.{refused-at, whole-at}
 use Rattle.commands.proofs.read_load_samples.Statement.{statement}
@@ -61,7 +61,7 @@ add-t7 : tie.Need-add-t7
 add-t7 c = omega arith
 
 returns-3 : tie.Need-returns-3
-unfolding commandOf
+unfolding commandOf partFor
 returns-3 c = λ s.
     let x = c .before .before .before .before .before in
     let a = x .before .before .before .before .before .args in

@@ -4,7 +4,7 @@ use native.Mathlib.Omega.{arith}
 use Rattle.words.specs.Words.{words}
 use Rattle.words.proofs.Words.{length-words}
 use Rattle.commands.specs.Commands.{priorityFrom}
-use Rattle.commands.specs.Answers.{commandOf}
+use Rattle.commands.specs.Answers.{commandOf, partFor}
 use Rattle.commands.proofs.Commands.{too-few, priority-high, priority-falls, priority-read}
 use Rattle.commands.proofs.Answers.{refused-at, whole-at}
 use Rattle.commands.proofs.read_priority.Statement.{statement}
@@ -40,7 +40,7 @@ add-t5 : tie.Need-add-t5
 add-t5 c = omega arith
 
 returns-4 : tie.Need-returns-4
-unfolding commandOf
+unfolding commandOf partFor
 returns-4 c = λ s l.
     let e = c .before .before in
     let a = e .before .before .before .before .args in

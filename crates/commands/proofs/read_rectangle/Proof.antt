@@ -4,7 +4,7 @@ use native.Mathlib.Omega.{arith}
 use Rattle.words.specs.Words.{words}
 use Rattle.words.proofs.Words.{length-words}
 use Rattle.commands.specs.Commands.{rectangleFrom}
-use Rattle.commands.specs.Answers.{commandOf}
+use Rattle.commands.specs.Answers.{commandOf, partFor}
 use Rattle.commands.proofs.Commands.{too-few, rectangle-read}
 use Rattle.commands.proofs.Answers.{refused-at, whole-at}
 use Rattle.commands.proofs.read_rectangle.Statement.{statement}
@@ -32,7 +32,7 @@ add-t3 : tie.Need-add-t3
 add-t3 c = omega arith
 
 returns-2 : tie.Need-returns-2
-unfolding commandOf
+unfolding commandOf partFor
 returns-2 c = λ s l.
     let e = c .before .before .before .before in
     let a = e .before .before .args in

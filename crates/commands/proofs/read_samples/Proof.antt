@@ -4,7 +4,7 @@ use native.Mathlib.Omega.{arith}
 use Rattle.words.specs.Words.{words}
 use Rattle.words.proofs.Words.{length-words}
 use Rattle.words.proofs.Answers.{words-some, past-none}
-use Rattle.commands.specs.Answers.{commandOf}
+use Rattle.commands.specs.Answers.{commandOf, partFor}
 use Rattle.commands.proofs.Commands.{samples-past, samples-there, samples-end}
 use Rattle.commands.proofs.Answers.{refused-at, whole-at}
 use Rattle.commands.proofs.read_samples.Statement.{statement}
@@ -48,7 +48,7 @@ word-requires-2 : tie.Need-word-requires-2
 word-requires-2 c κs = tt
 
 returns-2 : tie.Need-returns-2
-unfolding commandOf
+unfolding commandOf partFor
 returns-2 c = λ l.
     let x = c .before .before .before .before .before in
     let b = x .before .before .before in

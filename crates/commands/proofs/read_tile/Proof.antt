@@ -1,12 +1,13 @@
 -- `commands::read_tile` meets its contract: the tests follow those of the definition, the load's words by their places. Assumes nothing.
 use mathlib.Core.Path.{refl, sym, _∙_}
-use Prim.Native.Nat.{_+_}
+use Prim.Native.Nat.{_+_, _/_, _≤_}
 use native.Mathlib.Omega.{arith}
+use lib.ListN.{length}
 use Rattle.words.specs.Words.{words}
 use Rattle.words.proofs.Words.{length-words}
 use Rattle.words.proofs.Answers.{words-some, past-none}
 use Rattle.commands.specs.Commands.{tileFrom}
-use Rattle.commands.specs.Answers.{commandOf}
+use Rattle.commands.specs.Answers.{commandOf, partFor}
 use Rattle.commands.proofs.Commands.{too-few, array-room, tile-mode, tile-past, tile-no-lines, tile-no-dots, tile-there}
 use Rattle.commands.proofs.Answers.{refused-at, whole-at}
 use Rattle.commands.proofs.read_tile.Statement.{statement}
@@ -91,24 +92,27 @@ returns-5 c = λ s.
     (e .if2 .left) (n .0 .0) (words-some _ _ (sym (n .1) ∙ x .array-extent .ensures)) (d .before .word2 .ensures) (d .if3 .left)
     (c .before .word3 .ensures) (c .if4 .taken))
 
-add-t8 : tie.Need-add-t8
-add-t8 c = omega arith
-
-add-t9 : tie.Need-add-t9
-add-t9 c =
+-- the array takes no more words than the load has
+few : (c : tie.Else4) → c .before .before .before .before .before .r .given .0 .0 ≤ length (c .before .before .before .before .before .before .before .before .before .before .before .before .before .before .args .load .now) / 2
+few c =
     let d = c .before .before in
     let x = d .before .before .before .before .before in
     let e = x .before .before in
     let a = e .before .before .before .before .before .args in
     let n = d .before .before .before .r .given in
-    omega
-    (arith, array-room (a .load .now) (2 + x .before .long .result + 3) (n .0 .0) (words-some _ _ (sym (n .1) ∙ x .array-extent .ensures)))
+    array-room (a .load .now) (2 + x .before .long .result + 3) (n .0 .0) (words-some _ _ (sym (n .1) ∙ x .array-extent .ensures))
+
+add-t8 : tie.Need-add-t8
+add-t8 c = omega (arith, few c)
+
+add-t9 : tie.Need-add-t9
+add-t9 c = omega (arith, few c)
 
 add-t14 : tie.Need-add-t14
 add-t14 c = omega arith
 
 returns-6 : tie.Need-returns-6
-unfolding commandOf
+unfolding commandOf partFor
 returns-6 c = λ s.
     let d = c .before .before in
     let x = d .before .before .before .before .before in

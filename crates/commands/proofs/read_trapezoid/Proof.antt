@@ -4,7 +4,7 @@ use native.Mathlib.Omega.{arith}
 use Rattle.words.specs.Words.{words}
 use Rattle.words.proofs.Words.{length-words}
 use Rattle.commands.specs.Commands.{trapezoidFrom}
-use Rattle.commands.specs.Answers.{commandOf}
+use Rattle.commands.specs.Answers.{commandOf, partFor}
 use Rattle.commands.proofs.Commands.{too-few, trapezoid-one-row, trapezoid-read}
 use Rattle.commands.proofs.Answers.{refused-at, whole-at}
 use Rattle.commands.proofs.read_trapezoid.Statement.{statement}
@@ -44,7 +44,7 @@ add-t4 : tie.Need-add-t4
 add-t4 c = omega arith
 
 returns-3 : tie.Need-returns-3
-unfolding commandOf
+unfolding commandOf partFor
 returns-3 c = λ s l.
     let e = c .before .before .before .before .before in
     let a = e .before .before .before .before .args in
