@@ -90,7 +90,7 @@ fn read_priority(args: &[u8], p: usize, least: u32) -> Read
     Read::Whole(Command::Priority(value), p + 3)
 }
 
-// The load's addresses count after its count, two words; so it is in the two readers from the load below.
+// Addresses of the load count after its two count words, here and in the two other readers from the load.
 fn read_tile(args: &[u8], load: &[u8], p: usize) -> Read
     requires { ⌜ p < 2 ^ 62 ⌝ }
     ensures { λ r. ⌜ ((s : List ℕ) → told s (now (load .entry)) r ≡ placed p (tileFrom (loadWords (now (load .entry))) (words (now (args .entry))))) ⌝ }

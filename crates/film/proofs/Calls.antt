@@ -29,7 +29,7 @@ use Rattle.film.specs.Draw.{DrawAnswer, drawn, refused, drawTable, drawB
 use Rattle.film.specs.Promise.{due, told, Promised}
 use Rattle.film.specs.Demand3.{Buffers, Step, put, Call, Made, over, wrote, called, Has, sizeOf, rowsOfPicture, Drew, RefusedWith, isDone, dotsTold, standing, OneOfEach, none, more, OfTheCalls}
 use Rattle.film.proofs.Rows.{length-numbered, drop-numbered, take-numbered, numbered-same, joined-cut, length-joined, take-min}
-use Rattle.film.proofs.Walk.{draw-meets, There, there}
+use Rattle.film.proofs.Walk.{draw-meets, not-pages, There, there}
 
 -- ---- a sheet that the check passes with its load
 
@@ -46,7 +46,7 @@ known sheet load n e =
     go : (v : Verdict) (a : CheckAnswer) → front sheet load ≡ v → checkLayout (loadWords load) (pageCount (words sheet)) (layoutOf (words sheet)) ≡ a
         → checkAfter v a ≡ pages n → Known sheet load n
     go fine a f w e = record { table = f; walk = w ∙ e; some-lines = front-fine sheet load f .band-low }
-    go (refusals.refused k p) a f w e = let z : _≡_ {A = ℕ} 0 1 = cc in absurd (omega arith)
+    go (refusals.refused k p) a f w e = absurd (not-pages k p n e)
 
 -- ---- what a draw answers
 

@@ -57,7 +57,8 @@ draw-meets sheet page b h =
 
 -- ---- a layout that the check passes
 
-not-pages : (k p r : ℕ) → refused k p ≡ pages r → ⊥
+-- a refusal is no number of pages
+pub not-pages : (k p r : ℕ) → refused k p ≡ pages r → ⊥
 not-pages k p r e = let z : _≡_ {A = ℕ} 0 1 = cc in omega arith
 
 module _ (load : List ℕ) (n r : ℕ) where

@@ -123,7 +123,7 @@ pub record Alike (one two : List ℕ) (page b : ℕ) : Type 0 where
   pub commands₂ : List ℕ
   pub one-is : words one ≡ before ++ (length commands₁ ∷ (commands₁ ++ after))
   pub two-is : words two ≡ before ++ (length commands₂ ∷ (commands₂ ++ after))
-  -- and that band it is
+  -- and what differs is band b of this page: its count word comes right after `before`
   pub stands : reach (bandIndex (words one) page b) (layoutOf (words one)) ≡ found (suc (length before)) commands₁
 
 -- two drawings of a band of this size, each into a buffer of its own, have the same rows and dots; the first drew, and so, with the same answer,

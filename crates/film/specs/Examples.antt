@@ -2,6 +2,7 @@
 use mathlib.Core.List.{List, [], _∷_}
 use Prim.Native.Nat.{ℕ}
 use Rattle.words.specs.Words.{bytesOf}
+use Rattle.commands.specs.Commands.{exampleLoad}
 
 -- the empty load: the count 0 alone
 abbrev pub emptyLoad : List ℕ
@@ -40,9 +41,9 @@ cutBand = bytesOf (0xAAAA ∷ 1 ∷ 0 ∷ 0 ∷ 0 ∷ 3 ∷ 17 ∷ 2 ∷ 0 ∷ 0
 abbrev pub loadSheet : List ℕ
 loadSheet = bytesOf (0xAAAA ∷ 1 ∷ 0 ∷ 0 ∷ 0 ∷ 3 ∷ 16 ∷ 3 ∷ 12 ∷ 0 ∷ 1 ∷ 1 ∷ 1 ∷ 18 ∷ 8 ∷ 6 ∷ 0 ∷ 0 ∷ 10 ∷ 9 ∷ 0 ∷ 1 ∷ 2 ∷ 4 ∷ 0 ∷ 0 ∷ 0 ∷ 5 ∷ 2 ∷ 1 ∷ 0 ∷ 16 ∷ [])
 
--- at address 0 a tile at 2, 3 with one line 1010; at 6 a run group of one line; at 9 an array of one line
-abbrev pub exampleLoad : List ℕ
-exampleLoad = bytesOf (12 ∷ 0 ∷ 1 ∷ 2 ∷ 3 ∷ 1 ∷ 4 ∷ 0xA000 ∷ 1 ∷ 4 ∷ 0x8002 ∷ 1 ∷ 4 ∷ 0xF000 ∷ [])
+-- its load: a tile at 2, 3 with one line 1010 at address 0, a run group of one line at 6 and an array of one line at 9
+abbrev pub loadFile : List ℕ
+loadFile = bytesOf (12 ∷ 0 ∷ exampleLoad)
 
 -- one page of 4 lines of 16 dots in bands of 2, with these words from word 12 on
 abbrev pub onePage : List ℕ → List ℕ

@@ -14,7 +14,7 @@ use Rattle.sheet.specs.Layout.{layoutOf, bandsThen, pagesFrom, bandIndex, Reach
 use Rattle.ink.specs.Masks.{masked, sample, inRuns, within}
 use Rattle.ink.specs.Colours.{painted, tileDot, tileStart}
 use Rattle.ink.specs.Pictures.{numbered, rowBytes, filmOf, carryOut}
-use Rattle.film.specs.Examples.{emptyLoad, listing, twoPages, cutBand, loadSheet, exampleLoad}
+use Rattle.film.specs.Examples.{emptyLoad, listing, twoPages, cutBand, loadSheet, loadFile}
 
 -- the words of a band that was reached; none where there is no such band
 abbrev pub wordsReached : Reached → List ℕ
@@ -49,7 +49,7 @@ pub record PictureCases : Type 0 where
   -- no colour and no priority is carried over a band; the last band is cut; 17 dots take four bytes
   pub cut-picture : picture cutBand emptyLoad 0 ≡ (0 ∷ 1 ∷ 0x80 ∷ 0 ∷ []) ∷ (0 ∷ 1 ∷ 0x80 ∷ 0 ∷ []) ∷ (0x80 ∷ 0 ∷ 0 ∷ 0 ∷ []) ∷ []
   -- runs, samples and a tile from the load
-  pub load-picture : picture loadSheet exampleLoad 0 ≡ (0x0C ∷ 0 ∷ []) ∷ (0x3C ∷ 0 ∷ []) ∷ (0x15 ∷ 0x55 ∷ []) ∷ []
+  pub load-picture : picture loadSheet loadFile 0 ≡ (0x0C ∷ 0 ∷ []) ∷ (0x3C ∷ 0 ∷ []) ∷ (0x15 ∷ 0x55 ∷ []) ∷ []
 
 pub picture-cases : PictureCases
 unfolding picture bandCommands words bytesOf loadWords bandCount bandsThen pagesFrom reach readBand readFrom command priorityFrom tileFrom rectangleFrom trapezoidFrom runsFrom loadRunsFrom samplesFrom loadSamplesFrom arrayExtent samplesIn tileIn linesExtent groupExtent linesIn runsIn numbered rowBytes rowOf byteOf filmOf carryOut painted tileDot tileStart masked sample inRuns within

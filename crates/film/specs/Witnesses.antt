@@ -17,7 +17,7 @@ use Rattle.sheet.specs.Check.{checkAnswer, checkLayout, pages}
 use Rattle.ink.specs.Masks.{masked, sample, inRuns, within}
 use Rattle.ink.specs.Colours.{painted, tileDot, tileStart}
 use Rattle.ink.specs.Pictures.{rowsOf, numbered, rowBytes, filmOf, carryOut}
-use Rattle.film.specs.Examples.{emptyLoad, listing, listing₂, twoPages, twoPages₂, cutBand, loadSheet, exampleLoad}
+use Rattle.film.specs.Examples.{emptyLoad, listing, listing₂, twoPages, twoPages₂, cutBand, loadSheet, loadFile}
 use Rattle.film.specs.Draw.{drawTable, drawAnswer, bufferAfter}
 use Rattle.film.specs.Demand3.{Buffers, draw, write, Call, Made, over, wrote, called, OneOfEach, none, more, Alike}
 use Rattle.film.specs.declared.Drawn.the-variants.{Done, Refused}
@@ -44,7 +44,7 @@ some-calls =
 pub record Witnesses : Type 0 where
   pub listing-passes : checkAnswer listing emptyLoad ≡ pages 1
   pub cut-passes : checkAnswer cutBand emptyLoad ≡ pages 1
-  pub load-passes : checkAnswer loadSheet exampleLoad ≡ pages 1
+  pub load-passes : checkAnswer loadSheet loadFile ≡ pages 1
   pub calls-made :
       Made listing emptyLoad five (draw 0 1 7 ∷ draw 1 0 7 ∷ write 7 (5 ∷ 6 ∷ 7 ∷ []) ∷ draw 0 0 7 ∷ write 7 (8 ∷ 8 ∷ 8 ∷ 8 ∷ []) ∷ draw 0 0 7 ∷ []) some-calls
   pub one-of-each : OneOfEach some-calls 0 0 2 (last-call ∷ first-call ∷ [])
