@@ -71,6 +71,16 @@ pub enum Read {
     Refused(u8, usize),
 }
 
+// The refusals of one command, in their order: an unknown code; a command past its band; an argument that it may not have; a tile, group or
+// array past the load, or a tile with a side of 0.
+const UNKNOWN_CODE: u8 = 7;
+
+const CUT: u8 = 6;
+
+const BAD_ARGUMENT: u8 = 8;
+
+const BAD_LOAD: u8 = 9;
+
 // The readers of one command each. `args` are the words after the code word, up to the band's end, and p is the code word's place.
 
 fn read_priority(args: &[u8], p: usize, least: u32) -> Read
@@ -78,14 +88,14 @@ fn read_priority(args: &[u8], p: usize, least: u32) -> Read
     ensures { λ r. ⌜ ((s l : List ℕ) → told s l r ≡ placed p (priorityFrom least (words (now (args .entry))))) ⌝ }
 {
     if args.len() / 2 < 2 {
-        return Read::Refused(6, p);
+        return Read::Refused(CUT, p);
     }
     if word(args, 1) > 255 {
-        return Read::Refused(8, p);
+        return Read::Refused(BAD_ARGUMENT, p);
     }
     let value = long(args, 0);
     if value < least {
-        return Read::Refused(8, p);
+        return Read::Refused(BAD_ARGUMENT, p);
     }
     Read::Whole(Command::Priority(value), p + 3)
 }
@@ -96,22 +106,22 @@ fn read_tile(args: &[u8], load: &[u8], p: usize) -> Read
     ensures { λ r. ⌜ ((s : List ℕ) → told s (now (load .entry)) r ≡ placed p (tileFrom (loadWords (now (load .entry))) (words (now (args .entry))))) ⌝ }
 {
     if args.len() / 2 < 3 {
-        return Read::Refused(6, p);
+        return Read::Refused(CUT, p);
     }
     let mode = word(args, 0);
     if mode > 1 {
-        return Read::Refused(8, p);
+        return Read::Refused(BAD_ARGUMENT, p);
     }
     let from = 2 + long(args, 1) as usize;
     let r = array_extent(load, from + 3);
     let Extent::Words(n) = r else {
-        return Read::Refused(9, p);
+        return Read::Refused(BAD_LOAD, p);
     };
     if word(load, from + 3) == 0 {
-        return Read::Refused(9, p);
+        return Read::Refused(BAD_LOAD, p);
     }
     if word(load, from + 4) == 0 {
-        return Read::Refused(9, p);
+        return Read::Refused(BAD_LOAD, p);
     }
     Read::Whole(
         Command::Tile {
@@ -128,7 +138,7 @@ fn read_rectangle(args: &[u8], p: usize) -> Read
     ensures { λ r. ⌜ ((s l : List ℕ) → told s l r ≡ placed p (rectangleFrom (words (now (args .entry))))) ⌝ }
 {
     if args.len() / 2 < 4 {
-        return Read::Refused(6, p);
+        return Read::Refused(CUT, p);
     }
     Read::Whole(
         Command::Rectangle {
@@ -146,11 +156,11 @@ fn read_trapezoid(args: &[u8], p: usize) -> Read
     ensures { λ r. ⌜ ((s l : List ℕ) → told s l r ≡ placed p (trapezoidFrom (words (now (args .entry))))) ⌝ }
 {
     if args.len() / 2 < 6 {
-        return Read::Refused(6, p);
+        return Read::Refused(CUT, p);
     }
     let s_size = word(args, 1);
     if s_size == 1 {
-        return Read::Refused(8, p);
+        return Read::Refused(BAD_ARGUMENT, p);
     }
     Read::Whole(
         Command::Trapezoid {
@@ -172,7 +182,7 @@ fn read_runs(sheet: &[u8], args: &[u8], p: usize, end: usize) -> Read
 {
     let r = group_extent(args, 1);
     let Extent::Words(n) = r else {
-        return Read::Refused(6, p);
+        return Read::Refused(CUT, p);
     };
     let from = p + 2;
     let to = from + n;
@@ -191,12 +201,12 @@ fn read_load_runs(args: &[u8], load: &[u8], p: usize) -> Read
     ensures { λ r. ⌜ ((s : List ℕ) → told s (now (load .entry)) r ≡ placed p (loadRunsFrom (loadWords (now (load .entry))) (words (now (args .entry))))) ⌝ }
 {
     if args.len() / 2 < 3 {
-        return Read::Refused(6, p);
+        return Read::Refused(CUT, p);
     }
     let from = 2 + long(args, 0) as usize;
     let r = group_extent(load, from);
     let Extent::Words(n) = r else {
-        return Read::Refused(9, p);
+        return Read::Refused(BAD_LOAD, p);
     };
     Read::Whole(
         Command::LoadRuns {
@@ -215,7 +225,7 @@ fn read_samples(sheet: &[u8], args: &[u8], p: usize, end: usize) -> Read
 {
     let r = array_extent(args, 2);
     let Extent::Words(n) = r else {
-        return Read::Refused(6, p);
+        return Read::Refused(CUT, p);
     };
     let from = p + 3;
     let to = from + n;
@@ -235,12 +245,12 @@ fn read_load_samples(args: &[u8], load: &[u8], p: usize) -> Read
     ensures { λ r. ⌜ ((s : List ℕ) → told s (now (load .entry)) r ≡ placed p (loadSamplesFrom (loadWords (now (load .entry))) (words (now (args .entry))))) ⌝ }
 {
     if args.len() / 2 < 4 {
-        return Read::Refused(6, p);
+        return Read::Refused(CUT, p);
     }
     let from = 2 + long(args, 0) as usize;
     let r = array_extent(load, from);
     let Extent::Words(n) = r else {
-        return Read::Refused(9, p);
+        return Read::Refused(BAD_LOAD, p);
     };
     Read::Whole(
         Command::LoadSamples {
@@ -259,10 +269,10 @@ pub fn read_command(sheet: &[u8], load: &[u8], p: usize, end: usize, least: u32)
     ensures { λ r. ⌜ told (now (sheet .entry)) (now (load .entry)) r ≡ placed p (commandIn (loadWords (now (load .entry))) least (words (partOf (now (sheet .entry)) p end))) ⌝ }
 {
     if end > sheet.len() / 2 {
-        return Read::Refused(6, p);
+        return Read::Refused(CUT, p);
     }
     if p >= end {
-        return Read::Refused(6, p);
+        return Read::Refused(CUT, p);
     }
     let args = part(sheet, p + 1, end);
     match word(sheet, p) {
@@ -276,7 +286,7 @@ pub fn read_command(sheet: &[u8], load: &[u8], p: usize, end: usize, least: u32)
         8 => read_load_runs(args, load, p),
         9 => read_samples(sheet, args, p, end),
         10 => read_load_samples(args, load, p),
-        _ => Read::Refused(7, p),
+        _ => Read::Refused(UNKNOWN_CODE, p),
     }
 }
 

@@ -23,7 +23,7 @@ use Rattle.sheet.specs.Refusals as refusals
 use Rattle.sheet.specs.Layout.{layoutOf, bandIndex, reach}
 use Rattle.sheet.specs.Check.{CheckAnswer, pages, checkAfter, checkLayout, checkAnswer}
 use Rattle.sheet.proofs.Refusals.{first-fine, front-fine}
-use Rattle.ink.specs.Pictures.{rowBytes, filmOf, rowsOf}
+use Rattle.imaging.specs.Pictures.{rowBytes, filmOf, rowsOf}
 use Rattle.film.specs.Picture.{bandCommands, picture}
 use Rattle.film.specs.Draw.{DrawAnswer, drawn, refused, drawTable, drawBand, drawReached, drawAnswer, bufferAfter}
 use Rattle.film.specs.Promise.{due, told, Promised}

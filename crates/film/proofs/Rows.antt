@@ -6,7 +6,7 @@ use native.Mathlib.Nat.{suc-add, add-zero, add-suc, suc-mul, zero-mul, zero-min,
 use native.Mathlib.Omega.{arith}
 use lib.ListN.{length, take, drop, length-append, take-append-drop}
 use Rattle.row.specs.Counts.{joined}
-use Rattle.ink.specs.Pictures.{numbered}
+use Rattle.imaging.specs.Pictures.{numbered}
 
 pub length-numbered : (i n : ℕ) (f : ℕ → List ℕ) → length (numbered i n f) ≡ n
 unfolding numbered

@@ -18,9 +18,9 @@ use Rattle.sheet.specs.Herald.{Herald, heraldOf, pageCount, bandCount, bandStar
 use Rattle.sheet.specs.Refusals.{Line, refuse, Verdict, fine, first, lengthTable, passwordTable, sizeTable, loadTable, pageTable, frontTable}
 use Rattle.sheet.specs.Refusals as refusals
 use Rattle.sheet.specs.Layout.{bandsThen, pagesFrom, layoutOf, bandIndex, Reached, found, stopped, nowhere, reach}
-use Rattle.ink.specs.Masks.{masked, sample, inRuns, within}
-use Rattle.ink.specs.Colours.{painted, tileDot, tileStart}
-use Rattle.ink.specs.Pictures.{rowsOf, numbered, rowBytes, filmOf, carryOut}
+use Rattle.imaging.specs.Masks.{masked, sample, inRuns, within}
+use Rattle.imaging.specs.Colours.{painted, tileDot, tileStart}
+use Rattle.imaging.specs.Pictures.{rowsOf, numbered, rowBytes, filmOf, carryOut}
 use Rattle.film.specs.Examples.{emptyLoad, listing, twoPages, cutBand, onePage}
 
 -- rows, dots, and the bytes of the rows; or a refusal

@@ -11,9 +11,9 @@ use Rattle.commands.specs.Commands.{Command, command, priorityFrom, tileFrom, r
 use Rattle.commands.specs.Band.{Reading, read, refusedAt, readFrom, readBand}
 use Rattle.sheet.specs.Herald.{heraldOf, bandCount}
 use Rattle.sheet.specs.Layout.{layoutOf, bandsThen, pagesFrom, bandIndex, Reached, found, stopped, nowhere, reach}
-use Rattle.ink.specs.Masks.{masked, sample, inRuns, within}
-use Rattle.ink.specs.Colours.{painted, tileDot, tileStart}
-use Rattle.ink.specs.Pictures.{numbered, rowBytes, filmOf, carryOut}
+use Rattle.imaging.specs.Masks.{masked, sample, inRuns, within}
+use Rattle.imaging.specs.Colours.{painted, tileDot, tileStart}
+use Rattle.imaging.specs.Pictures.{numbered, rowBytes, filmOf, carryOut}
 use Rattle.film.specs.Examples.{emptyLoad, listing, twoPages, cutBand, loadSheet, loadFile}
 
 -- the words of a band that was reached; none where there is no such band

@@ -14,9 +14,9 @@ use Rattle.sheet.specs.Herald.{bandCount}
 use Rattle.sheet.specs.Refusals.{first, lengthTable, passwordTable, sizeTable, loadTable, pageTable, frontTable, front}
 use Rattle.sheet.specs.Layout.{bandsThen, pagesFrom, reach}
 use Rattle.sheet.specs.Check.{checkAnswer, checkLayout, pages}
-use Rattle.ink.specs.Masks.{masked, sample, inRuns, within}
-use Rattle.ink.specs.Colours.{painted, tileDot, tileStart}
-use Rattle.ink.specs.Pictures.{rowsOf, numbered, rowBytes, filmOf, carryOut}
+use Rattle.imaging.specs.Masks.{masked, sample, inRuns, within}
+use Rattle.imaging.specs.Colours.{painted, tileDot, tileStart}
+use Rattle.imaging.specs.Pictures.{rowsOf, numbered, rowBytes, filmOf, carryOut}
 use Rattle.film.specs.Examples.{emptyLoad, listing, listing₂, twoPages, twoPages₂, cutBand, loadSheet, loadFile}
 use Rattle.film.specs.Draw.{drawTable, drawAnswer, bufferAfter}
 use Rattle.film.specs.Demand3.{Buffers, draw, write, Call, Made, over, wrote, called, OneOfEach, none, more, Alike}

@@ -1,3 +1,6 @@
--- The laws of sheets, for the proofs of this crate and of the crates above it. The files bear the names of those in specs/ whose definitions
--- they are about.
+-- The laws of sheets, for the proofs of this crate and of the crates above it: Refusals (the table), Walk (pages and bands by place), Band
+-- (a band's commands by place) and Checking (where the check stands in them).
 pub mod Refusals
+pub mod Walk
+pub mod Band
+pub mod Checking

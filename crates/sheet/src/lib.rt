@@ -1,14 +1,33 @@
-// Sheets: the test of herald and load, which comes before the walk over pages and bands.
+// Sheets: the test of herald and load, and the check, which then walks over pages, bands and commands.
 ghost use mathlib.Core.Path.{_≡_};
-ghost use mathlib.Core.List.{[], _∷_};
-ghost use Rattle.sheet.specs.Refusals.{refuse, first, orElse, front, outside};
-ghost use Rattle.sheet.specs.Answers.{told};
+ghost use mathlib.Core.List.{List, [], _∷_};
+ghost use Prim.Native.Nat.{ℕ, _<_, _≤_};
+ghost use lib.ListN.{length};
+ghost use Rattle.words.specs.Words.{words};
+ghost use Rattle.words.specs.Parts.{partOf};
+ghost use Rattle.words.specs.Load.{loadWords};
+ghost use Rattle.commands.specs.Band.{priorityAfter, readBand};
+ghost use Rattle.commands.specs.Answers.{commandOf};
+ghost use Rattle.sheet.specs.Herald.{heraldOf, pageCount, bandCount};
+ghost use Rattle.sheet.specs.Refusals.{fine, refuse, first, orElse, front, outside};
+ghost use Rattle.sheet.specs.Layout.{layoutOf};
+ghost use Rattle.sheet.specs.Check.{CheckAnswer, passBand, checkLayout, checkAfter, checkAnswer};
+ghost use Rattle.sheet.specs.Answers.{told, answered};
+use commands::Command;
+use commands::Read;
+use commands::read_command;
 use words::long;
 use words::word;
 
 // Nothing is wrong before the walk, or a refusal's number and place.
 pub enum Front {
     Fine,
+    Refused(u8, usize),
+}
+
+// The number of pages, or a refusal's number and place.
+pub enum Checked {
+    Pages(usize),
     Refused(u8, usize),
 }
 
@@ -61,4 +80,103 @@ pub fn test_front(sheet: &[u8], load: &[u8]) -> Front
     let f = line(f, 4, 8, claimed != load.len() / 2);
     let f = line(f, 4, 8, count > long(sheet, 8));
     line(f, 5, 11, word(sheet, 11) == 0)
+}
+
+// What a refusal of the command reader is here.
+fn stopped(r: Read) -> Front
+    ensures { λ f. ⌜ ((n p : ℕ) → r ≡ Read.Refused n p → f ≡ Front.Refused n p) ⌝ }
+{
+    match r {
+        Read::Refused(n, p) => Front::Refused(n, p),
+        Read::Whole(_, _) => Front::Fine,
+    }
+}
+
+// The priority after a command.
+fn priority_after(least: u32, c: Command) -> u32
+    ensures { λ r. ⌜ ((s l : List ℕ) → r ≡ priorityAfter least (commandOf s l c)) ⌝ }
+{
+    match c {
+        Command::Priority(value) => value,
+        _ => least,
+    }
+}
+
+// The commands of a band, from place `from` up to, not including, place `end`.
+fn check_band(sheet: &[u8], load: &[u8], from: usize, end: usize) -> Front
+    requires { ⌜ (from ≤ end) × (end ≤ length (words (now sheet))) ⌝ }
+    ensures { λ r. ⌜ ((a : CheckAnswer) → checkAfter (told r) a ≡ passBand from (readBand (loadWords (now (load .entry))) (words (partOf (now (sheet .entry)) from end))) a) ⌝ }
+{
+    let mut p = from;
+    let mut least: u32 = 0;
+    while p < end {
+        let r = read_command(sheet, load, p, end, least);
+        let Read::Whole(c, next) = r else {
+            return stopped(r);
+        };
+        least = priority_after(least, c);
+        p = next;
+    }
+    Front::Fine
+}
+
+// How many bands a page has.
+fn bands_per_page(sheet: &[u8]) -> usize
+    requires { ⌜ 0 < heraldOf (words (now sheet)) .bandSSize ⌝ }
+    ensures { λ r. ⌜ r ≡ bandCount (heraldOf (words (now (sheet .entry)))) ⌝ }
+{
+    let lines = word(sheet, 5) as usize;
+    let band = word(sheet, 7) as usize;
+    (lines + (band - 1)) / band
+}
+
+// The walk over pages and bands: at place p `bands` bands of a page are to come, and then `pages` pages.
+fn check_pages(sheet: &[u8], load: &[u8]) -> Checked
+    requires { ⌜ front (now sheet) (now load) ≡ fine ⌝ }
+    ensures { λ r. ⌜ answered r ≡ checkLayout (loadWords (now (load .entry))) (pageCount (words (now (sheet .entry)))) (layoutOf (words (now (sheet .entry)))) ⌝ }
+{
+    let words = sheet.len() / 2;
+    let per_page = bands_per_page(sheet);
+    let count = word(sheet, 11) as usize;
+    let mut pages = count;
+    let mut bands: usize = 0;
+    let mut p: usize = 12;
+    while pages + bands > 0 {
+        if p >= words {
+            return Checked::Refused(6, p);
+        }
+        let c = word(sheet, p) as usize;
+        if bands > 0 {
+            if c > words - p - 1 {
+                return Checked::Refused(6, p);
+            }
+            let from = p + 1;
+            let end = from + c;
+            if let Front::Refused(n, q) = check_band(sheet, load, from, end) {
+                return Checked::Refused(n, q);
+            }
+            p = end;
+            bands -= 1;
+        } else if c != per_page {
+            return Checked::Refused(5, p);
+        } else {
+            p += 1;
+            pages -= 1;
+            bands = per_page;
+        }
+    }
+    if p < words {
+        return Checked::Refused(10, p);
+    }
+    Checked::Pages(count)
+}
+
+// The check of a sheet with its load: the first refusal, or how many pages there are.
+pub fn check(sheet: &[u8], load: &[u8]) -> Checked
+    ensures { λ r. ⌜ answered r ≡ checkAnswer (now (sheet .entry)) (now (load .entry)) ⌝ }
+{
+    match test_front(sheet, load) {
+        Front::Refused(n, p) => Checked::Refused(n, p),
+        Front::Fine => check_pages(sheet, load),
+    }
 }

@@ -12,8 +12,8 @@ use Rattle.row.specs.Stretches.{filled}
 use Rattle.row.proofs.Tests.{leb-is, ltb-is, is-same}
 use Rattle.words.specs.Words.{ceilDiv}
 use Rattle.commands.specs.Commands.{trapezoid}
-use Rattle.ink.specs.Masks.{within, edge, masked}
-use Rattle.ink.proofs.Rectangle.{within-is, within-none}
+use Rattle.imaging.specs.Masks.{within, edge, masked}
+use Rattle.imaging.proofs.Rectangle.{within-is, within-none}
 
 -- ---- edges in natural numbers
 

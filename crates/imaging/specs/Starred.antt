@@ -4,8 +4,8 @@ use mathlib.Core.Bool.{false}
 use mathlib.Core.List.{[], _∷_}
 use Prim.Native.Nat.{ℕ}
 use Rattle.commands.specs.Commands.{paint, rectangle, trapezoid}
-use Rattle.ink.specs.Masks.{masked}
-use Rattle.ink.specs.Pictures.{rowsOf}
+use Rattle.imaging.specs.Masks.{masked}
+use Rattle.imaging.specs.Pictures.{rowsOf}
 
 pub record Starred : Type 0 where
   -- rectangle 1, 2, 1, 3 inks lines 1 and 2, columns 1 to 3, byte 70

@@ -1,11 +1,11 @@
 -- The starred cases of rectangles and trapezoids hold. Assumes nothing.
 use mathlib.Core.Path.{refl}
 use Rattle.row.specs.Dots.{byteOf, rowOf}
-use Rattle.ink.specs.Masks.{within, masked}
-use Rattle.ink.specs.Colours.{painted}
-use Rattle.ink.specs.Pictures.{carryOut, filmOf, rowBytes, numbered, rowsOf}
-use Rattle.ink.specs.Starred.{Starred}
-use Rattle.ink.proofs.Rectangle.{rectangle-empty-lines, rectangle-empty-dots}
+use Rattle.imaging.specs.Masks.{within, masked}
+use Rattle.imaging.specs.Colours.{painted}
+use Rattle.imaging.specs.Pictures.{carryOut, filmOf, rowBytes, numbered, rowsOf}
+use Rattle.imaging.specs.Starred.{Starred}
+use Rattle.imaging.proofs.Rectangle.{rectangle-empty-lines, rectangle-empty-dots}
 
 pub starred : Starred
 unfolding rowsOf numbered rowBytes rowOf byteOf filmOf carryOut painted masked within

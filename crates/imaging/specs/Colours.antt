@@ -5,7 +5,7 @@ use mathlib.Core.List.{[], _∷_}
 use Prim.Native.Nat.{ℕ, _+_, _*_, _-_, _/_, _%_}
 use lib.Dec.{leb}
 use Rattle.words.specs.Arrays.{Tile}
-use Rattle.ink.specs.Masks.{Film, sample}
+use Rattle.imaging.specs.Masks.{Film, sample}
 
 -- A tile is laid from its corner toward greater s and f. For s ≥ sMin, i is (s − sMin)/sSize rounded down, and the tile row starts at
 -- fMin + i · phase

@@ -7,7 +7,7 @@ use lib.Dec.{leb, ltb}
 use Rattle.row.specs.Stretches.{filled}
 use Rattle.row.proofs.Tests.{Is, leb-is, ltb-is, and-is, is-false}
 use Rattle.commands.specs.Commands.{rectangle}
-use Rattle.ink.specs.Masks.{within, masked}
+use Rattle.imaging.specs.Masks.{within, masked}
 
 -- ---- ranges
 

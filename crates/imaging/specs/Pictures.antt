@@ -9,8 +9,8 @@ use Rattle.words.specs.Arrays.{samplesIn, tileIn}
 use Rattle.words.specs.Groups.{linesIn, runsIn}
 use Rattle.commands.specs.Commands.{rectangle, trapezoid, runs, samples, Command, priority, ink, clear, opaque, transparent, paint}
 use Rattle.sheet.specs.Herald.{rowLength}
-use Rattle.ink.specs.Masks.{Film, within, inRuns, sample, masked}
-use Rattle.ink.specs.Colours.{Colour, solid, opaqueTile, transparentTile, tileStart, tileDot, painted}
+use Rattle.imaging.specs.Masks.{Film, within, inRuns, sample, masked}
+use Rattle.imaging.specs.Colours.{Colour, solid, opaqueTile, transparentTile, tileStart, tileDot, painted}
 
 -- the commands one after another, on a film I with a colour C; priority changes nothing
 unfoldable pub carryOut : Colour → List Command → Film → Film

@@ -1,4 +1,0 @@
--- The laws of inking, for the proofs of this crate and of the crates above it.
-pub mod Rectangle
-pub mod Trapezoid
-pub mod Starred
