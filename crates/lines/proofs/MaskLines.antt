@@ -1,0 +1,104 @@
+-- Laws of the lines of a mask that is inked row by row: which commands have none, and what a line of each of the others covers. Assumes nothing.
+use mathlib.Core.Path.{_≡_, refl, sym, ap₂, _∙_, fun-ext}
+use mathlib.Core.Bool.{true, false, cond, _&&_}
+use mathlib.Core.List.{List, [], _∷_}
+use Prim.Native.Nat.{ℕ, _+_, _-_, _<_, _≤_}
+use native.Mathlib.Omega.{arith}
+use native.Mathlib.Decide.{ℕ-discrete}
+use borrow.Author.Tests.{eq-eqb, ne-eqb, le-leb, lt-leb, le-ltb, lt-ltb}
+use types.Run.{OneOf, miss}
+use denote.Enum.Declared.{tagOf}
+use lib.Dec.{leb, ltb, eqb}
+use Rattle.words.specs.Arrays.{samplesIn}
+use Rattle.commands.specs.Answers.{withWords}
+use Rattle.commands.specs.Commands.{paint, samples}
+use Rattle.commands.specs.declared.Command as code
+use Rattle.commands.specs.declared.Command.the-variants.{Priority, Ink, Clear, Tile, Rectangle, Trapezoid, Runs, LoadRuns, Samples, LoadSamples}
+use Rattle.commands.proofs.Command.{the-type}
+use Rattle.imaging.specs.Masks.{within, sample, masked}
+use Rattle.imaging.proofs.Rectangle.{within-is}
+use Rattle.imaging.proofs.Trapezoid as natural
+use Rattle.imaging.proofs.Trapezoid.{trapezoid-line}
+use Rattle.lines.specs.Lines.{firstLine, lineCount, hasLine, maskOf}
+
+-- ---- commands without lines
+
+-- their tags
+abbrev others : List ℕ
+others = 0 ∷ 1 ∷ 2 ∷ 3 ∷ 6 ∷ 7 ∷ []
+
+pub no-lines : (c : code.Command) (ws : List ℕ) → OneOf others (tagOf the-type c) → (0 ≡ firstLine c) × (0 ≡ lineCount c ws)
+unfolding firstLine lineCount
+no-lines (Priority value) ws o = (refl, refl)
+no-lines Ink ws o = (refl, refl)
+no-lines Clear ws o = (refl, refl)
+no-lines (Tile see from to) ws o = (refl, refl)
+no-lines (Rectangle sMin sSize fMin fSize) ws o = absurd (miss others 4 tt o)
+no-lines (Trapezoid sMin sSize fMin fSize fMinLast fSizeLast) ws o = absurd (miss others 5 tt o)
+no-lines (Runs sMin from to) ws o = (refl, refl)
+no-lines (LoadRuns sMin from to) ws o = (refl, refl)
+no-lines (Samples sMin fMin from to) ws o = absurd (miss others 8 tt o)
+no-lines (LoadSamples sMin fMin from to) ws o = absurd (miss others 9 tt o)
+
+-- ---- the lines that a mask has
+
+pub line-there : (c : code.Command) (ws : List ℕ) (s : ℕ) → firstLine c ≤ s → s < firstLine c + lineCount c ws → hasLine c ws s ≡ true
+unfolding hasLine within
+line-there c ws s h l = rw (le-leb (firstLine c) s h) (lt-ltb s (firstLine c + lineCount c ws) l)
+
+pub line-above : (c : code.Command) (ws : List ℕ) (s : ℕ) → s < firstLine c → hasLine c ws s ≡ false
+unfolding hasLine within
+line-above c ws s h = rw (lt-leb (firstLine c) s h) refl
+
+pub line-below : (c : code.Command) (ws : List ℕ) (s : ℕ) → firstLine c + lineCount c ws ≤ s → hasLine c ws s ≡ false
+unfolding hasLine within
+line-below c ws s h = rw (le-leb (firstLine c) s (omega arith)) (le-ltb s (firstLine c + lineCount c ws) h)
+
+-- ---- a line that the mask has, where the command is known to be k
+
+pub record OnLine (c : code.Command) (ws : List ℕ) (s : ℕ) : Type 0 where
+  pub has : hasLine c ws s ≡ true
+
+pub line-in : {c k : code.Command} {ws : List ℕ} {s : ℕ} → OnLine c ws s → c ≡ k → (firstLine k ≤ s) × (s < firstLine k + lineCount k ws)
+unfolding hasLine
+line-in {c} {k} {ws} {s} h e = within-is (firstLine k) (lineCount k ws) s .holds (rw e at (h .has))
+
+pub no-line : {c : code.Command} {ws : List ℕ} {s : ℕ} → OnLine c ws s → OneOf others (tagOf the-type c) → ⊥
+no-line {c} {ws} {s} h o = let p = line-in h refl in omega (arith, no-lines c ws o .1)
+
+-- a trapezoid that has a line has two at least
+pub trapezoid-in : {c : code.Command} {ws : List ℕ} {s sMin sSize fMin fSize fMinLast fSizeLast : ℕ}
+    → OnLine c ws s → c ≡ Trapezoid sMin sSize fMin fSize fMinLast fSizeLast → (1 < sSize) × (sMin ≤ s) × (s < sMin + sSize)
+unfolding firstLine lineCount
+trapezoid-in {c} {ws} {s} {sMin} {sSize} h e = go (line-in h e) (ℕ-discrete sSize 1)
+  where
+    go : (sMin ≤ s) × (s < sMin + cond (eqb sSize 1) 0 sSize) → Dec (sSize ≡ 1) → (1 < sSize) × (sMin ≤ s) × (s < sMin + sSize)
+    go p (yes e) = let q = rw (eq-eqb sSize 1 e) at (p .1) in absurd (omega arith)
+    go p (no e) = let q = rw (ne-eqb sSize 1 e) at (p .1) in (omega arith, omega arith, omega arith)
+
+-- ---- its dots
+
+pub rectangle-dots : {c : code.Command} {ws : List ℕ} {s sMin sSize fMin fSize : ℕ} → OnLine c ws s → c ≡ Rectangle sMin sSize fMin fSize
+    → (λ f. leb fMin f && ltb f (fMin + fSize)) ≡ maskOf (withWords c ws) s
+unfolding hasLine firstLine lineCount maskOf masked within
+rectangle-dots h e = let l = rw e at (h .has) in rw e (fun-ext (λ f. rw l))
+
+pub samples-dots : (ws : List ℕ) (s sMin fMin : ℕ) → sMin ≤ s
+    → (λ f. leb fMin f && sample (samplesIn ws) (s - sMin) (f - fMin)) ≡ maskOf (paint (samples sMin fMin ws)) s
+unfolding maskOf masked
+samples-dots ws s sMin fMin h = fun-ext (λ f. rw (le-leb sMin s h))
+
+-- between its two edges rounded up
+pub trapezoid-dots : {c : code.Command} {ws : List ℕ} {s sMin sSize fMin fSize fMinLast fSizeLast from to : ℕ}
+    → OnLine c ws s → c ≡ Trapezoid sMin sSize fMin fSize fMinLast fSizeLast
+    → from ≡ natural.edgeAt fMin fMinLast (sSize - 1) (s - sMin)
+    → to ≡ natural.edgeAt (fMin + fSize) (fMinLast + fSizeLast) (sSize - 1) (s - sMin)
+    → (λ f. leb from f && ltb f to) ≡ maskOf (withWords c ws) s
+unfolding maskOf
+trapezoid-dots {c} {ws} {s} {sMin} {sSize} h e b t =
+    let p = trapezoid-in h e in
+    rw e
+    (fun-ext
+    (λ f.
+    ap₂ (λ (x y : ℕ). leb x f && ltb f y) b t
+    ∙ sym (trapezoid-line sMin sSize _ _ _ _ s f (p .0) (within-is sMin sSize s .said (p .1, p .2)))))
