@@ -1,7 +1,7 @@
 // Runs `sheet::check` on the cases of the standard input, at most 65,536 bytes, and prints a line for each. A case is a line of three
 // fields, split by one blank: a name, then the sheet's bytes and the load's in hexadecimal, `-` for none. What is printed is the name with
-// the number of pages, with a refusal's number and place, or with `bad line` where the line has not this form; nothing for an empty line.
-// What the program must print for the file stdin beside src/ is in the file stdout there.
+// the number of pages, with a refusal's number and place, or with `bad line` where the line has not this form; nothing for an empty line. For a
+// longer input it prints `input too long` alone. What it must print for the file stdin beside src/ is in the file stdout there.
 ghost use Prim.Native.Nat.{_≤_, _<_};
 ghost use lib.ListN.{length};
 use sheet::Checked;

@@ -46,6 +46,9 @@ pub record ColourCases : Type 0 where
   pub not-without-phase : tileDot tile 3 2 ≡ false
   pub above : tileDot tile 0 2 ≡ false
   pub left : tileDot (record { phase = 0; sMin = 1; fMin = 2; array = record { sSize = 1; fSize = 1; lines = 0x8000 ∷ [] } }) 1 1 ≡ false
+  -- a tile with a side of 0 is refused before it comes here; its dots would be 0
+  pub no-lines : tileDot (record { phase = 0; sMin = 1; fMin = 2; array = record { sSize = 0; fSize = 1; lines = 0x8000 ∷ [] } }) 1 2 ≡ false
+  pub no-dots : tileDot (record { phase = 0; sMin = 1; fMin = 2; array = record { sSize = 1; fSize = 0; lines = 0x8000 ∷ [] } }) 1 2 ≡ false
   pub ink-on-mask : painted (solid true) 0 0 true false ≡ true
   pub clear-on-mask : painted (solid false) 0 0 true true ≡ false
   pub off-mask : painted (solid false) 0 0 false true ≡ true

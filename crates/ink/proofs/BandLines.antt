@@ -15,7 +15,8 @@ use Rattle.commands.specs.declared.Command as code
 use Rattle.sheet.specs.Herald.{rowLength}
 use Rattle.imaging.specs.Masks.{Film}
 use Rattle.imaging.specs.Colours.{Colour}
-use Rattle.lines.specs.Lines.{maskOf, firstLine, lineCount, hasLine, paintedLine}
+use Rattle.paint.specs.Rows.{paintedLine}
+use Rattle.lines.specs.Lines.{maskOf, firstLine, lineCount, hasLine}
 use Rattle.ink.specs.Bands.{paintedBand}
 use Rattle.lines.proofs.MaskLines.{line-above, line-below}
 use Rattle.ink.proofs.Bands.{row-fits, band-one, Left, left-first, left-next, left-none, left-length}

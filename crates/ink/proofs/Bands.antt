@@ -14,9 +14,9 @@ use Rattle.row.proofs.Dots.{Bytes, dot-drop, dot-front, length-rowOf, bytes-row
 use Rattle.sheet.specs.Herald.{rowLength}
 use Rattle.imaging.specs.Masks.{Film}
 use Rattle.imaging.specs.Colours.{Colour, painted}
-use Rattle.lines.specs.Lines.{paintedLine}
+use Rattle.paint.specs.Rows.{paintedLine}
 use Rattle.ink.specs.Bands.{paintedDot, paintedBand}
-use Rattle.lines.proofs.Painting.{painted-off, painted-twice}
+use Rattle.paint.proofs.Painting.{painted-off, painted-twice}
 
 -- ---- parts of a buffer
 

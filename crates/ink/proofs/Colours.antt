@@ -13,23 +13,23 @@ use Rattle.commands.proofs.Command.{the-type}
 use Rattle.imaging.specs.Masks.{Film}
 use Rattle.imaging.specs.Colours.{Colour, solid, painted}
 use Rattle.imaging.specs.Pictures.{carryOut}
-use Rattle.lines.specs.declared.Colour as code
-use Rattle.lines.specs.declared.Colour.the-variants.{Tile}
-use Rattle.lines.specs.Colours.{colourWith}
+use Rattle.paint.specs.declared.Colour as code
+use Rattle.paint.specs.declared.Colour.the-variants.{Tile}
+use Rattle.paint.specs.Colours.{colourWith}
 use Rattle.ink.specs.Colours.{tilePart, colourOf, colourNext}
 use Rattle.lines.specs.Lines.{maskOf}
-use Rattle.lines.proofs.Painting.{painted-off}
+use Rattle.paint.proofs.Painting.{painted-off}
 
 -- the tags of the commands that are no colour
-abbrev others : List ℕ
-others = 0 ∷ 4 ∷ 5 ∷ 6 ∷ 7 ∷ 8 ∷ 9 ∷ []
+abbrev no-colour : List ℕ
+no-colour = 0 ∷ 4 ∷ 5 ∷ 6 ∷ 7 ∷ 8 ∷ 9 ∷ []
 
 -- which leave the colour
-pub colour-kept : (C : code.Colour) (c : code-command.Command) → OneOf others (tagOf the-type c) → C ≡ colourNext C c
+pub colour-kept : (C : code.Colour) (c : code-command.Command) → OneOf no-colour (tagOf the-type c) → C ≡ colourNext C c
 unfolding colourNext
-colour-kept C command.Ink h = absurd (miss others 1 tt h)
-colour-kept C command.Clear h = absurd (miss others 2 tt h)
-colour-kept C (command.Tile see from to) h = absurd (miss others 3 tt h)
+colour-kept C command.Ink h = absurd (miss no-colour 1 tt h)
+colour-kept C command.Clear h = absurd (miss no-colour 2 tt h)
+colour-kept C (command.Tile see from to) h = absurd (miss no-colour 3 tt h)
 colour-kept C (command.Priority value) h = refl
 colour-kept C (command.Rectangle sMin sSize fMin fSize) h = refl
 colour-kept C (command.Trapezoid sMin sSize fMin fSize fMinLast fSizeLast) h = refl

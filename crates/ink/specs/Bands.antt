@@ -47,6 +47,7 @@ pub record BandCases : Type 0 where
   pub below-band : inBand (solid true) (paint (rectangle 5 9 0 17)) ≡ blank
   pub no-mask : inBand (solid true) ink ≡ blank
   pub tiled : inBand (opaqueTile (tileIn exampleTile)) (paint (rectangle 3 2 0 4)) ≡ 0x50 ∷ 0 ∷ 0 ∷ 0 ∷ 0x20 ∷ 0 ∷ 0 ∷ 0 ∷ 0xEE ∷ []
+  pub just-long-enough : paintedBand 17 3 1 (solid true) (maskOf (paint (rectangle 3 2 0 17))) (0 ∷ 0 ∷ 0 ∷ 0 ∷ []) ≡ 0xFF ∷ 0xFF ∷ 0x80 ∷ 0 ∷ []
   pub too-short : paintedBand 17 3 2 (solid true) (maskOf (paint (rectangle 3 2 0 17))) (0 ∷ 0 ∷ 0 ∷ 0 ∷ []) ≡ 0 ∷ 0 ∷ 0 ∷ 0 ∷ []
   pub no-width : paintedBand 0 3 2 (solid true) (maskOf (paint (rectangle 3 2 0 17))) (0 ∷ 0 ∷ []) ≡ 0 ∷ 0 ∷ []
 
@@ -60,6 +61,7 @@ band-cases =
       below-band = refl;
       no-mask = refl;
       tiled = refl;
+      just-long-enough = refl;
       too-short = refl;
       no-width = refl;
     }

@@ -9,9 +9,9 @@ use Rattle.words.specs.Arrays.{tileIn}
 use Rattle.commands.specs.declared.Command as code-command
 use Rattle.commands.specs.declared.Command.the-variants as command
 use Rattle.imaging.specs.Colours.{Colour, solid, opaqueTile, transparentTile}
-use Rattle.lines.specs.declared.Colour as code
-use Rattle.lines.specs.declared.Colour.the-variants.{Solid, Tile}
-use Rattle.lines.specs.Colours.{colourWith}
+use Rattle.paint.specs.declared.Colour as code
+use Rattle.paint.specs.declared.Colour.the-variants.{Solid, Tile}
+use Rattle.paint.specs.Colours.{colourWith}
 
 -- the bytes of the tile that it names; none where it names no tile
 unfoldable pub tilePart : (load : List ℕ) → code.Colour → List ℕ

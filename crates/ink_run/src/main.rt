@@ -1,15 +1,15 @@
-// Runs `ink::ink_command` on a band of four rows of 16 dots and prints a line for each case: its name, and the rows as they are then, in
-// hexadecimal. What the program must print is in the file stdout beside src/.
+// Runs `ink::ink_command` on a band of four rows and prints a line for each case: its name, and the buffer as it is then, in hexadecimal. What the program must print is in the file stdout beside src/.
 use commands::Command;
 use ink::Band;
+use ink::colour_after;
 use ink::ink_command;
-use lines::Colour;
+use paint::Colour;
 
 const INK: Colour = Colour::Solid(true);
 
 const CLEAR: Colour = Colour::Solid(false);
 
-// The tile of the load file below.
+// The tile of the load file below, and a range that the load file has not.
 const OPAQUE: Colour = Colour::Tile {
     transparent: false,
     from: 2,
@@ -20,6 +20,12 @@ const TRANSPARENT: Colour = Colour::Tile {
     transparent: true,
     from: 2,
     to: 8,
+};
+
+const NO_TILE: Colour = Colour::Tile {
+    transparent: false,
+    from: 2,
+    to: 15,
 };
 
 fn rectangle(s_min: u16, s_size: u16, f_min: u16, f_size: u16) -> Command {
@@ -54,8 +60,8 @@ fn print_rows(buf: &[u8]) {
     io::write_all(1, b"\n");
 }
 
-// One command in a band that begins at line `first`.
-fn case(name: &[u8], buf: &mut [u8], first: u16, colour: Colour, c: Command) {
+// One command in a band of four rows that begins at line `first`.
+fn case(name: &[u8], buf: &mut [u8], first: u16, width: u16, colour: Colour, c: Command) {
     // A sheet's part: at place 0 a run group of three lines, in which two runs of line 0 overlap, the run of line 1 has no dots and that of line 2 goes
     // past the film; at place 9 an array of two lines of 17 dots.
     let sheet =
@@ -67,22 +73,22 @@ fn case(name: &[u8], buf: &mut [u8], first: u16, colour: Colour, c: Command) {
     let band = Band {
         first,
         rows: 4,
-        width: 16,
+        width,
     };
     ink_command(buf, band, sheet, load, colour, c);
     io::write_all(1, name);
     print_rows(buf);
 }
 
-// On rows that are all 0, and on rows that are all 1.
+// On rows of 16 dots that are all 0, and on rows that are all 1.
 fn white(name: &[u8], first: u16, colour: Colour, c: Command) {
     let mut buf = [0u8; 8];
-    case(name, &mut buf, first, colour, c);
+    case(name, &mut buf, first, 16, colour, c);
 }
 
 fn black(name: &[u8], first: u16, colour: Colour, c: Command) {
     let mut buf = [255u8; 8];
-    case(name, &mut buf, first, colour, c);
+    case(name, &mut buf, first, 16, colour, c);
 }
 
 fn rectangles() {
@@ -104,71 +110,47 @@ fn trapezoids() {
     white(b"last-lines", 65531, INK, trapezoid(65535, 16, 0, 0, 16));
 }
 
-fn others() {
-    white(
-        b"runs",
-        0,
-        INK,
-        Command::Runs {
-            s_min: 1,
-            from: 0,
-            to: 9,
-        },
-    );
-    white(
-        b"runs-above",
-        3,
-        INK,
-        Command::Runs {
-            s_min: 1,
-            from: 0,
-            to: 9,
-        },
-    );
-    white(
-        b"load-runs",
-        0,
-        INK,
-        Command::LoadRuns {
-            s_min: 2,
-            from: 8,
-            to: 11,
-        },
-    );
-    white(
-        b"samples",
-        0,
-        INK,
-        Command::Samples {
-            s_min: 2,
-            f_min: 3,
-            from: 9,
-            to: 15,
-        },
-    );
-    white(
-        b"load-samples",
-        0,
-        INK,
-        Command::LoadSamples {
-            s_min: 1,
-            f_min: 14,
-            from: 11,
-            to: 14,
-        },
-    );
-    white(
-        b"no-such-words",
-        0,
-        INK,
-        Command::Samples {
-            s_min: 0,
-            f_min: 0,
-            from: 9,
-            to: 16,
-        },
-    );
-    white(b"colour-command", 0, INK, Command::Clear);
+fn runs() -> Command {
+    Command::Runs {
+        s_min: 1,
+        from: 0,
+        to: 9,
+    }
+}
+
+fn load_runs() -> Command {
+    Command::LoadRuns {
+        s_min: 2,
+        from: 8,
+        to: 11,
+    }
+}
+
+fn samples(s_min: u16, f_min: u16, to: usize) -> Command {
+    Command::Samples {
+        s_min,
+        f_min,
+        from: 9,
+        to,
+    }
+}
+
+fn load_samples() -> Command {
+    Command::LoadSamples {
+        s_min: 1,
+        f_min: 14,
+        from: 11,
+        to: 14,
+    }
+}
+
+fn groups_and_arrays() {
+    white(b"runs", 0, INK, runs());
+    white(b"runs-above", 3, INK, runs());
+    white(b"load-runs", 0, INK, load_runs());
+    white(b"samples", 0, INK, samples(2, 3, 15));
+    white(b"load-samples", 0, INK, load_samples());
+    white(b"no-such-words", 0, INK, samples(0, 0, 16));
 }
 
 fn tiles() {
@@ -176,32 +158,58 @@ fn tiles() {
     white(b"transparent", 0, TRANSPARENT, rectangle(0, 4, 0, 16));
     black(b"transparent-keeps", 0, TRANSPARENT, rectangle(0, 4, 0, 16));
     black(b"opaque-under-mask", 0, OPAQUE, rectangle(1, 1, 4, 3));
+    black(b"opaque-runs", 0, OPAQUE, runs());
+    black(b"opaque-samples", 0, OPAQUE, samples(2, 4, 15));
+    black(b"opaque-no-tile", 0, NO_TILE, rectangle(0, 2, 0, 8));
+}
+
+fn colours() {
+    white(b"colour-command", 0, INK, Command::Clear);
     black(
-        b"opaque-runs",
+        b"after-clear",
         0,
-        OPAQUE,
-        Command::Runs {
-            s_min: 1,
-            from: 0,
-            to: 9,
-        },
+        colour_after(INK, Command::Clear),
+        rectangle(1, 2, 1, 3),
     );
-    black(
-        b"opaque-samples",
+    white(
+        b"after-ink",
         0,
-        OPAQUE,
-        Command::Samples {
-            s_min: 2,
-            f_min: 4,
-            from: 9,
-            to: 15,
-        },
+        colour_after(OPAQUE, Command::Ink),
+        rectangle(1, 2, 1, 3),
     );
+}
+
+// Other widths, and buffers that are not of the band's bytes.
+fn buffers() {
+    let mut spare = [0u8; 8];
+    case(
+        b"spare-bits",
+        &mut spare,
+        0,
+        12,
+        INK,
+        rectangle(0, 4, 0, 16),
+    );
+    let mut wide = [0u8; 16];
+    case(b"two-words", &mut wide, 0, 17, INK, rectangle(1, 1, 15, 9));
+    let mut long = [85u8; 10];
+    case(
+        b"bytes-beyond",
+        &mut long,
+        0,
+        16,
+        INK,
+        rectangle(0, 5, 0, 16),
+    );
+    let mut short = [85u8; 6];
+    case(b"too-short", &mut short, 0, 16, INK, rectangle(0, 5, 0, 16));
 }
 
 fn main() {
     rectangles();
     trapezoids();
-    others();
+    groups_and_arrays();
     tiles();
+    colours();
+    buffers();
 }

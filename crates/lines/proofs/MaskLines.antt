@@ -1,44 +1,46 @@
--- Laws of the lines of a mask that is inked row by row: which commands have none, and what a line of each of the others covers. Assumes nothing.
+-- Laws of the lines of a mask that is inked line by line: which commands have none, what a line of each of the others covers, and that off its lines
+-- a mask has no dots. Assumes nothing.
 use mathlib.Core.Path.{_≡_, refl, sym, ap₂, _∙_, fun-ext}
-use mathlib.Core.Bool.{true, false, cond, _&&_}
+use mathlib.Core.Bool.{Bool, true, false, cond, _&&_, and-false}
 use mathlib.Core.List.{List, [], _∷_}
 use Prim.Native.Nat.{ℕ, _+_, _-_, _<_, _≤_}
 use native.Mathlib.Omega.{arith}
 use native.Mathlib.Decide.{ℕ-discrete}
-use borrow.Author.Tests.{eq-eqb, ne-eqb, le-leb, lt-leb, le-ltb, lt-ltb}
+use borrow.Author.Tests.{eq-eqb, ne-eqb, eqb-true, le-leb, lt-leb, le-ltb, lt-ltb, ltb-false}
 use types.Run.{OneOf, miss}
 use denote.Enum.Declared.{tagOf}
 use lib.Dec.{leb, ltb, eqb}
+use Rattle.words.specs.Words.{at}
 use Rattle.words.specs.Arrays.{samplesIn}
 use Rattle.commands.specs.Answers.{withWords}
-use Rattle.commands.specs.Commands.{paint, samples}
+use Rattle.commands.specs.Commands.{paint, samples, trapezoid}
 use Rattle.commands.specs.declared.Command as code
 use Rattle.commands.specs.declared.Command.the-variants.{Priority, Ink, Clear, Tile, Rectangle, Trapezoid, Runs, LoadRuns, Samples, LoadSamples}
 use Rattle.commands.proofs.Command.{the-type}
 use Rattle.imaging.specs.Masks.{within, sample, masked}
-use Rattle.imaging.proofs.Rectangle.{within-is}
+use Rattle.imaging.proofs.Rectangle.{within-is, rectangle-off}
 use Rattle.imaging.proofs.Trapezoid as natural
-use Rattle.imaging.proofs.Trapezoid.{trapezoid-line}
+use Rattle.imaging.proofs.Trapezoid.{trapezoid-line, trapezoid-off, trapezoid-one}
 use Rattle.lines.specs.Lines.{firstLine, lineCount, hasLine, maskOf}
 
 -- ---- commands without lines
 
 -- their tags
-abbrev others : List ℕ
-others = 0 ∷ 1 ∷ 2 ∷ 3 ∷ 6 ∷ 7 ∷ []
+abbrev without-lines : List ℕ
+without-lines = 0 ∷ 1 ∷ 2 ∷ 3 ∷ 6 ∷ 7 ∷ []
 
-pub no-lines : (c : code.Command) (ws : List ℕ) → OneOf others (tagOf the-type c) → (0 ≡ firstLine c) × (0 ≡ lineCount c ws)
+pub no-lines : (c : code.Command) (ws : List ℕ) → OneOf without-lines (tagOf the-type c) → (0 ≡ firstLine c) × (0 ≡ lineCount c ws)
 unfolding firstLine lineCount
 no-lines (Priority value) ws o = (refl, refl)
 no-lines Ink ws o = (refl, refl)
 no-lines Clear ws o = (refl, refl)
 no-lines (Tile see from to) ws o = (refl, refl)
-no-lines (Rectangle sMin sSize fMin fSize) ws o = absurd (miss others 4 tt o)
-no-lines (Trapezoid sMin sSize fMin fSize fMinLast fSizeLast) ws o = absurd (miss others 5 tt o)
+no-lines (Rectangle sMin sSize fMin fSize) ws o = absurd (miss without-lines 4 tt o)
+no-lines (Trapezoid sMin sSize fMin fSize fMinLast fSizeLast) ws o = absurd (miss without-lines 5 tt o)
 no-lines (Runs sMin from to) ws o = (refl, refl)
 no-lines (LoadRuns sMin from to) ws o = (refl, refl)
-no-lines (Samples sMin fMin from to) ws o = absurd (miss others 8 tt o)
-no-lines (LoadSamples sMin fMin from to) ws o = absurd (miss others 9 tt o)
+no-lines (Samples sMin fMin from to) ws o = absurd (miss without-lines 8 tt o)
+no-lines (LoadSamples sMin fMin from to) ws o = absurd (miss without-lines 9 tt o)
 
 -- ---- the lines that a mask has
 
@@ -63,7 +65,7 @@ pub line-in : {c k : code.Command} {ws : List ℕ} {s : ℕ} → OnLine c ws s �
 unfolding hasLine
 line-in {c} {k} {ws} {s} h e = within-is (firstLine k) (lineCount k ws) s .holds (rw e at (h .has))
 
-pub no-line : {c : code.Command} {ws : List ℕ} {s : ℕ} → OnLine c ws s → OneOf others (tagOf the-type c) → ⊥
+pub no-line : {c : code.Command} {ws : List ℕ} {s : ℕ} → OnLine c ws s → OneOf without-lines (tagOf the-type c) → ⊥
 no-line {c} {ws} {s} h o = let p = line-in h refl in omega (arith, no-lines c ws o .1)
 
 -- a trapezoid that has a line has two at least
@@ -102,3 +104,50 @@ trapezoid-dots {c} {ws} {s} {sMin} {sSize} h e b t =
     (λ f.
     ap₂ (λ (x y : ℕ). leb x f && ltb f y) b t
     ∙ sym (trapezoid-line sMin sSize _ _ _ _ s f (p .0) (within-is sMin sSize s .said (p .1, p .2)))))
+
+-- ---- off its lines a mask has no dots
+
+samples-off : (sMin fMin : ℕ) (ws : List ℕ) (s f : ℕ) → within sMin (at ws 0) s ≡ false → masked (samples sMin fMin ws) s f ≡ false
+unfolding masked sample samplesIn within
+samples-off sMin fMin ws s f h = go (leb sMin s) refl
+  where
+    go : (t : Bool) → leb sMin s ≡ t → masked (samples sMin fMin ws) s f ≡ false
+    go false e = rw e refl
+    go true e =
+        let l : at ws 0 ≤ s - sMin = omega (arith, ltb-false s (sMin + at ws 0) (rw e at h)) in
+        rw (e, le-ltb (s - sMin) (at ws 0) l) (and-false (leb fMin f))
+
+trapezoid-lines : (sMin sSize fMin fSize fMinLast fSizeLast s f : ℕ) → within sMin (cond (eqb sSize 1) 0 sSize) s ≡ false
+    → masked (trapezoid sMin sSize fMin fSize fMinLast fSizeLast) s f ≡ false
+trapezoid-lines sMin sSize fMin fSize fMinLast fSizeLast s f h = go (eqb sSize 1) refl
+  where
+    go : (t : Bool) → eqb sSize 1 ≡ t → masked (trapezoid sMin sSize fMin fSize fMinLast fSizeLast) s f ≡ false
+    go true e = rw (eqb-true sSize 1 e) (trapezoid-one sMin fMin fSize fMinLast fSizeLast s f)
+    go false e = trapezoid-off sMin sSize fMin fSize fMinLast fSizeLast s f (rw e at h)
+
+-- the tags of the commands that are no run group
+abbrev no-group : List ℕ
+no-group = 0 ∷ 1 ∷ 2 ∷ 3 ∷ 4 ∷ 5 ∷ 8 ∷ 9 ∷ []
+
+off-lines : (c : code.Command) (ws : List ℕ) → OneOf no-group (tagOf the-type c) → (s f : ℕ) → hasLine c ws s ≡ false → maskOf (withWords c ws) s f ≡ false
+unfolding hasLine firstLine lineCount maskOf
+off-lines (Priority value) ws o s f h = refl
+off-lines Ink ws o s f h = refl
+off-lines Clear ws o s f h = refl
+off-lines (Tile true from to) ws o s f h = refl
+off-lines (Tile false from to) ws o s f h = refl
+off-lines (Rectangle sMin sSize fMin fSize) ws o s f h = rectangle-off sMin sSize fMin fSize s f h
+off-lines (Trapezoid sMin sSize fMin fSize fMinLast fSizeLast) ws o s f h = trapezoid-lines sMin sSize fMin fSize fMinLast fSizeLast s f h
+off-lines (Runs sMin from to) ws o s f h = absurd (miss no-group 6 tt o)
+off-lines (LoadRuns sMin from to) ws o s f h = absurd (miss no-group 7 tt o)
+off-lines (Samples sMin fMin from to) ws o s f h = samples-off sMin fMin ws s f h
+off-lines (LoadSamples sMin fMin from to) ws o s f h = samples-off sMin fMin ws s f h
+
+-- so the lines hold the whole mask
+pub on-lines : (c : code.Command) (ws : List ℕ) → OneOf no-group (tagOf the-type c) → (s f : ℕ)
+    → (hasLine c ws s && maskOf (withWords c ws) s f) ≡ maskOf (withWords c ws) s f
+on-lines c ws o s f = go (hasLine c ws s) refl
+  where
+    go : (t : Bool) → hasLine c ws s ≡ t → (t && maskOf (withWords c ws) s f) ≡ maskOf (withWords c ws) s f
+    go true e = refl
+    go false e = sym (off-lines c ws o s f e)

@@ -21,6 +21,7 @@ pub record EdgeCases : Type 0 where
   pub up : ceilZ (pos 7) 3 ≡ pos 3
   pub negative-whole : ceilZ (negℤ (pos 6)) 3 ≡ negℤ (pos 2)
   pub negative-up : ceilZ (negℤ (pos 7)) 3 ≡ negℤ (pos 2)
+  pub negative-fraction : ceilZ (negℤ (pos 2)) 3 ≡ pos 0
   pub nothing : ceilZ (pos 0) 3 ≡ pos 0
   -- from 0 to 3 over two lines: 3/2 on the line between, so 2
   pub rising : edgeAt 0 3 2 1 ≡ pos 2

@@ -19,7 +19,7 @@ use commands::read_command;
 use words::long;
 use words::word;
 
-// Nothing is wrong before the walk, or a refusal's number and place.
+// Nothing is wrong so far, or a refusal's number and place.
 pub enum Front {
     Fine,
     Refused(u8, usize),

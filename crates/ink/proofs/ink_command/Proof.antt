@@ -4,7 +4,8 @@ use native.Mathlib.Omega.{arith}
 use Rattle.words.specs.Words.{words}
 use Rattle.lines.specs.Lines.{maskOf}
 use Rattle.ink.proofs.Bands.{rows-bytes, band-short}
-use Rattle.ink.proofs.Commands.{on-lines, command-is}
+use Rattle.lines.proofs.MaskLines.{on-lines}
+use Rattle.ink.proofs.Commands.{command-is}
 use Rattle.ink.proofs.ink_command.Statement.{statement}
 use Rattle.ink.proofs.ink_command.Tie as tie
 

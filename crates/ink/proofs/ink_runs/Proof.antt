@@ -5,7 +5,7 @@ use native.Mathlib.Omega.{arith}
 use borrow.Author.Tests.{ltb-true, leb-true, ltb-false, leb-false}
 use Rattle.words.specs.Words.{words}
 use Rattle.words.proofs.Words.{length-words}
-use Rattle.lines.specs.Colours.{colourWith}
+use Rattle.paint.specs.Colours.{colourWith}
 use Rattle.ink.proofs.Runs.{Walked, walked-first, walked-last, walked-next, walked-done, walked-short, walked-below, walked-length}
 use Rattle.ink.proofs.ink_runs.Statement.{statement}
 use Rattle.ink.proofs.ink_runs.Tie as tie

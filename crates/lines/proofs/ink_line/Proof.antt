@@ -5,7 +5,7 @@ use native.Mathlib.Omega.{arith}
 use Rattle.words.specs.Words.{words}
 use Rattle.commands.specs.Answers.{withWords}
 use Rattle.lines.specs.Lines.{maskOf}
-use Rattle.lines.proofs.Lines.{line-empty}
+use Rattle.paint.proofs.Lines.{line-empty}
 use Rattle.lines.proofs.MaskLines.{line-there, line-above, line-below}
 use Rattle.lines.proofs.ink_line.Statement.{statement}
 use Rattle.lines.proofs.ink_line.Tie as tie

@@ -86,23 +86,23 @@ edge-at-requires c κs = omega (arith, lines (c .before))
 cast-from-2 : tie.Need-cast-from-2
 cast-from-2 c = from-place c .cast
 
-cast-edge-at-3 : tie.Need-cast-edge-at-3
-cast-edge-at-3 c = omega arith
+cast-a : tie.Need-cast-a
+cast-a c = omega arith
 
-cast-edge-at-4 : tie.Need-cast-edge-at-4
-cast-edge-at-4 c = omega arith
+cast-a-2 : tie.Need-cast-a-2
+cast-a-2 c = omega arith
 
-add-edge-at : tie.Need-add-edge-at
-add-edge-at c = omega arith
+add-a : tie.Need-add-a
+add-a c = omega arith
 
-cast-edge-at-5 : tie.Need-cast-edge-at-5
-cast-edge-at-5 c = omega arith
+cast-z : tie.Need-cast-z
+cast-z c = omega arith
 
-cast-edge-at-6 : tie.Need-cast-edge-at-6
-cast-edge-at-6 c = omega arith
+cast-z-2 : tie.Need-cast-z-2
+cast-z-2 c = omega arith
 
-add-edge-at-2 : tie.Need-add-edge-at-2
-add-edge-at-2 c = omega arith
+add-z : tie.Need-add-z
+add-z c = omega arith
 
 edge-at-requires-2 : tie.Need-edge-at-requires-2
 edge-at-requires-2 c κs = omega (arith, lines (c .before .before))
@@ -116,14 +116,14 @@ ink-stretch-requires-2 c κs = tt
 enum-known-c-3 : tie.Need-enum-known-c-3
 enum-known-c-3 c = c .match .keys3
 
-cast-ink-samples : tie.Need-cast-ink-samples
-cast-ink-samples c = omega arith
+cast-i : tie.Need-cast-i
+cast-i c = omega arith
 
-sub-ink-samples : tie.Need-sub-ink-samples
-sub-ink-samples c = from-first (c .before .before)
+sub-i : tie.Need-sub-i
+sub-i c = from-first (c .before)
 
-cast-ink-samples-2 : tie.Need-cast-ink-samples-2
-cast-ink-samples-2 c = omega arith
+cast-i-2 : tie.Need-cast-i-2
+cast-i-2 c = omega arith
 
 ink-samples-requires : tie.Need-ink-samples-requires
 ink-samples-requires c κs = tt
@@ -131,14 +131,14 @@ ink-samples-requires c κs = tt
 enum-known-c-4 : tie.Need-enum-known-c-4
 enum-known-c-4 c = c .match .keys4
 
-cast-ink-samples-3 : tie.Need-cast-ink-samples-3
-cast-ink-samples-3 c = omega arith
+cast-i-3 : tie.Need-cast-i-3
+cast-i-3 c = omega arith
 
-sub-ink-samples-2 : tie.Need-sub-ink-samples-2
-sub-ink-samples-2 c = from-first-2 (c .before .before)
+sub-i-2 : tie.Need-sub-i-2
+sub-i-2 c = from-first-2 (c .before)
 
-cast-ink-samples-4 : tie.Need-cast-ink-samples-4
-cast-ink-samples-4 c = omega arith
+cast-i-4 : tie.Need-cast-i-4
+cast-i-4 c = omega arith
 
 ink-samples-requires-2 : tie.Need-ink-samples-requires-2
 ink-samples-requires-2 c κs = tt
@@ -198,24 +198,24 @@ ink-row-spec =
     cast-edge-at-2
     edge-at-requires
     cast-from-2
-    cast-edge-at-3
-    cast-edge-at-4
-    add-edge-at
-    cast-edge-at-5
-    cast-edge-at-6
-    add-edge-at-2
+    cast-a
+    cast-a-2
+    add-a
+    cast-z
+    cast-z-2
+    add-z
     edge-at-requires-2
     cast-to
     ink-stretch-requires-2
     enum-known-c-3
-    cast-ink-samples
-    sub-ink-samples
-    cast-ink-samples-2
+    cast-i
+    sub-i
+    cast-i-2
     ink-samples-requires
     enum-known-c-4
-    cast-ink-samples-3
-    sub-ink-samples-2
-    cast-ink-samples-4
+    cast-i-3
+    sub-i-2
+    cast-i-4
     ink-samples-requires-2
     same-length
     returns

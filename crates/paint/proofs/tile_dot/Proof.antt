@@ -1,4 +1,4 @@
--- `lines::tile_dot` meets its contract: the start of the tile's row is that of the definition, and each test leaves one of its cases.
+-- `paint::tile_dot` meets its contract: the start of the tile's row is that of the definition, and each test leaves one of its cases.
 -- Assumes nothing.
 use mathlib.Core.Path.{_≡_, _∙_}
 use Prim.Native.Nat.{_+_, _*_, _-_, _/_}
@@ -7,9 +7,9 @@ use native.Mathlib.Omega.{arith}
 use Rattle.words.specs.Words.{words}
 use Rattle.words.specs.Arrays.{tileIn}
 use Rattle.imaging.specs.Colours.{tileStart}
-use Rattle.lines.proofs.Samples.{below-lines, past-dots, quotient-fits, moved-fits, start-fits, start-is, no-tile, above-tile, before-tile, tile-is}
-use Rattle.lines.proofs.tile_dot.Statement.{statement}
-use Rattle.lines.proofs.tile_dot.Tie as tie
+use Rattle.paint.proofs.Samples.{below-lines, past-dots, quotient-fits, moved-fits, start-fits, start-is, no-tile, above-tile, before-tile, tile-is}
+use Rattle.paint.proofs.tile_dot.Statement.{statement}
+use Rattle.paint.proofs.tile_dot.Tie as tie
 
 word-requires : tie.Need-word-requires
 word-requires c κs = tt
