@@ -135,19 +135,19 @@ fn check_pages(sheet: &[u8], load: &[u8]) -> Checked
     requires { ⌜ front (now sheet) (now load) ≡ fine ⌝ }
     ensures { λ r. ⌜ answered r ≡ checkLayout (loadWords (now (load .entry))) (pageCount (words (now (sheet .entry)))) (layoutOf (words (now (sheet .entry)))) ⌝ }
 {
-    let words = sheet.len() / 2;
+    let len = sheet.len() / 2;
     let per_page = bands_per_page(sheet);
     let count = word(sheet, 11) as usize;
     let mut pages = count;
     let mut bands: usize = 0;
     let mut p: usize = 12;
     while pages + bands > 0 {
-        if p >= words {
+        if p >= len {
             return Checked::Refused(6, p);
         }
         let c = word(sheet, p) as usize;
         if bands > 0 {
-            if c > words - p - 1 {
+            if c > len - p - 1 {
                 return Checked::Refused(6, p);
             }
             let from = p + 1;
@@ -165,7 +165,7 @@ fn check_pages(sheet: &[u8], load: &[u8]) -> Checked
             bands = per_page;
         }
     }
-    if p < words {
+    if p < len {
         return Checked::Refused(10, p);
     }
     Checked::Pages(count)

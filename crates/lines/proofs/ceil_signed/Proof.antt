@@ -3,7 +3,6 @@ use mathlib.Core.Path.{_≡_, _∙_}
 use mathlib.Core.Bool.{true}
 use Prim.Native.Nat.{_^_, _<_}
 use native.Mathlib.Omega.{arith}
-use borrow.Author.Needs.{needs}
 use lib.IntN.{pos, _+ℤ_, _-ℤ_}
 use lib.Signed.{mag, quotZ, ltZ}
 use mir.Syntax.{w64}
@@ -41,7 +40,7 @@ down-fits : (c : tie.Else1) → SFits w64 (quotZ (c .before .args .x) (pos (c .b
 down-fits c = quot-fits (c .before .args .x) (c .before .args .n) (omega arith)
 
 cast-m : tie.Need-cast-m
-cast-m c = search needs
+cast-m c = omega arith
 
 sub-result : tie.Need-sub-result
 sub-result c = rw (n-is (c .before)) (less-fits (c .before))
@@ -51,10 +50,10 @@ add-result c = rw (n-is (c .before), x-is (c .before), toZ-ofZ (less-fits (c .be
 
 div-result : tie.Need-div-result
 div-result c =
-    (search needs, rw (n-is (c .before), x-is (c .before), toZ-ofZ (less-fits (c .before)), toZ-ofZ (sum-fits c)) (up-fits c))
+    (omega arith, rw (n-is (c .before), x-is (c .before), toZ-ofZ (less-fits (c .before)), toZ-ofZ (sum-fits c)) (up-fits c))
 
 div-result-2 : tie.Need-div-result-2
-div-result-2 c = (search needs, rw (n-is (c .before), x-is (c .before)) (down-fits c))
+div-result-2 c = (omega arith, rw (n-is (c .before), x-is (c .before)) (down-fits c))
 
 returns : tie.Need-returns
 returns c =

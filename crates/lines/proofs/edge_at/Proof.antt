@@ -2,7 +2,6 @@
 use mathlib.Core.Path.{_≡_, refl, ap, _∙_}
 use Prim.Native.Nat.{ℕ, _^_, _≤_, _<_}
 use native.Mathlib.Omega.{arith}
-use borrow.Author.Needs.{needs}
 use lib.IntN.{ℤ, pos, _+ℤ_, _-ℤ_, _*ℤ_}
 use lib.Signed.{mag}
 use mir.Syntax.{w64}
@@ -61,16 +60,16 @@ moved-is : (c : tie.After-ceil-signed) → c .ceil-signed .result ≡ ceilZ (sca
 moved-is c = c .ceil-signed .ensures ∙ ap (λ (x : ℤ). ceilZ x (c .before .args .n)) (divided (c .before))
 
 cast-lean : tie.Need-cast-lean
-cast-lean c = search needs
+cast-lean c = omega arith
 
 cast-lean-2 : tie.Need-cast-lean-2
-cast-lean-2 c = search needs
+cast-lean-2 c = omega arith
 
 sub-lean : tie.Need-sub-lean
 sub-lean c = rw (z-is c, a-is c) (lean-fits c)
 
 cast-ceil-signed : tie.Need-cast-ceil-signed
-cast-ceil-signed c = search needs
+cast-ceil-signed c = omega arith
 
 mul-ceil-signed : tie.Need-mul-ceil-signed
 mul-ceil-signed c = rw (z-is c, a-is c, d-is c, toZ-ofZ (lean-fits c)) (scaled-fits c)
@@ -80,7 +79,7 @@ ceil-signed-requires c κs =
     rw (z-is c, a-is c, d-is c, toZ-ofZ (lean-fits c), toZ-ofZ (scaled-fits c)) (omega (arith, scaled-small c), c .pre)
 
 cast-result : tie.Need-cast-result
-cast-result c = search needs
+cast-result c = omega arith
 
 add-result : tie.Need-add-result
 add-result c = rw (a-is (c .before), moved-is c, toZ-ofZ (moved-fits (c .before))) (place-fits (c .before))

@@ -1,7 +1,6 @@
 -- `lines::ink_row` meets its contract: each arm inks the dots of the mask's line. Assumes nothing.
 use Prim.Native.Nat.{ℕ, _+_, _-_, _<_, _≤_}
 use native.Mathlib.Omega.{arith}
-use borrow.Author.Needs.{needs}
 use Rattle.words.specs.Words.{words}
 use Rattle.imaging.proofs.Trapezoid as natural
 use Rattle.lines.specs.Lines.{firstLine}
@@ -144,7 +143,7 @@ ink-samples-requires-2 : tie.Need-ink-samples-requires-2
 ink-samples-requires-2 c κs = tt
 
 same-length : tie.Need-same-length
-same-length c = search needs
+same-length c = omega arith
 
 returns : tie.Need-returns
 returns c =
@@ -152,7 +151,7 @@ returns c =
     rw (← rectangle-dots (on-line (k .before .before)) (k .c .given .1)) (c .before .before .ink-stretch .ensures)
 
 same-length-2 : tie.Need-same-length-2
-same-length-2 c = search needs
+same-length-2 c = omega arith
 
 returns-2 : tie.Need-returns-2
 returns-2 c =
@@ -162,7 +161,7 @@ returns-2 c =
     (c .before .before .ink-stretch2 .ensures)
 
 same-length-3 : tie.Need-same-length-3
-same-length-3 c = search needs
+same-length-3 c = omega arith
 
 returns-3 : tie.Need-returns-3
 returns-3 c =
@@ -170,7 +169,7 @@ returns-3 c =
     rw (k .c3 .given .1, ← samples-dots _ _ _ _ (from-first k)) (c .before .before .ink-samples .ensures)
 
 same-length-4 : tie.Need-same-length-4
-same-length-4 c = search needs
+same-length-4 c = omega arith
 
 returns-4 : tie.Need-returns-4
 returns-4 c =
