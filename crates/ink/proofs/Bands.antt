@@ -1,38 +1,22 @@
 -- Laws of a band buffer after a mask was painted, and of what is left to paint. Assumes nothing.
 use mathlib.Core.Path.{_≡_, refl, sym, ap, ap₂, _∙_, fun-ext}
 use mathlib.Core.Bool.{Bool, true, false, cond, _&&_, _||_, and-false, and-or-distrib-left}
-use mathlib.Core.List.{List, [], _∷_, _++_}
-use Prim.Native.Nat.{ℕ, zero, suc, _+_, _-_, _*_, _/_, _%_, _<_, _≤_}
+use mathlib.Core.List.{List, _++_}
+use Prim.Native.Nat.{ℕ, _+_, _-_, _*_, _/_, _%_, _<_, _≤_}
 use native.Mathlib.Nat.{div-add-mod', mul-add-div-right, mul-add-mod-self-right, div-eq-of-lt, mod-eq-of-lt, mul-left-comm, add-zero, suc-mul, mul-le-mul, mul-le-mul-right, le-of-suc-le-suc}
 use native.Mathlib.Omega.{arith}
 use borrow.Author.Tests.{eq-eqb, ne-eqb, lt-ltb, le-leb, lt-leb, eqb-true, ltb-true}
-use lib.Dec.{leb, ltb, eqb, lit<}
-use lib.ListN.{length, take, drop, take-append-drop, length-drop}
-use lib.Seq.{length-take-le, getD-drop}
+use lib.Dec.{leb, ltb, eqb}
+use lib.ListN.{length, take, drop, length-drop}
+use lib.Seq.{length-take-le}
 use Rattle.row.specs.Dots.{dotAt, rowOf}
-use Rattle.row.proofs.Dots.{Bytes, dot-drop, dot-front, length-rowOf, bytes-rowOf, row-is, rowOf-dots, rowOf-same, rowOf-add, rewritten}
+use Rattle.row.proofs.Dots.{Bytes, bytes-take, bytes-drop, dot-drop, dot-take, length-rowOf, bytes-rowOf, row-is, rowOf-dots, rowOf-same, rowOf-add, rewritten}
 use Rattle.sheet.specs.Herald.{rowLength}
 use Rattle.imaging.specs.Masks.{Film}
 use Rattle.imaging.specs.Colours.{Colour, painted}
 use Rattle.paint.specs.Rows.{paintedLine}
 use Rattle.ink.specs.Bands.{paintedDot, paintedBand}
 use Rattle.paint.proofs.Painting.{painted-off, painted-twice}
-
--- ---- parts of a buffer
-
-bytes-take : (n : ℕ) (l : List ℕ) → Bytes l → Bytes (take n l)
-bytes-take zero l h i = lit< tt
-bytes-take (suc n) [] h i = lit< tt
-bytes-take (suc n) (x ∷ l) h zero = h zero
-bytes-take (suc n) (x ∷ l) h (suc i) = bytes-take n l (λ i. h (suc i)) i
-
-bytes-drop : (n : ℕ) (l : List ℕ) → Bytes l → Bytes (drop n l)
-bytes-drop n l h i = rw (getD-drop n l i 0) (h (n + i))
-
--- the dots of the first n bytes
-dot-take : (n : ℕ) (l : List ℕ) (f : ℕ) → n ≤ length l → f < 8 * n → dotAt (take n l) f ≡ dotAt l f
-dot-take n l f h p =
-    sym (dot-front (take n l) (drop n l) f (omega (arith, length-take-le n l h))) ∙ ap (λ (r : List ℕ). dotAt r f) (take-append-drop n l)
 
 -- ---- tests joined
 
