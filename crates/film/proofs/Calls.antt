@@ -18,28 +18,29 @@ use Rattle.words.specs.Load.{loadWords}
 use Rattle.commands.specs.Commands.{Command}
 use Rattle.commands.specs.Band.{read}
 use Rattle.sheet.specs.Herald.{Herald, heraldOf, pageCount, bandCount, bandStart, bandRows, bandBytes, rowLength}
-use Rattle.sheet.specs.Refusals.{Verdict, fine, Line, refuse, first, frontTable, front}
+use Rattle.sheet.specs.Refusals.{Verdict, fine, front}
 use Rattle.sheet.specs.Refusals as refusals
 use Rattle.sheet.specs.Layout.{layoutOf, bandIndex, reach}
 use Rattle.sheet.specs.Check.{CheckAnswer, pages, checkAfter, checkLayout, checkAnswer}
-use Rattle.sheet.proofs.Refusals.{first-fine, front-fine}
+use Rattle.sheet.proofs.Refusals.{front-fine}
 use Rattle.imaging.specs.Pictures.{rowBytes, filmOf, rowsOf}
 use Rattle.film.specs.Picture.{bandCommands, picture}
-use Rattle.film.specs.Draw.{DrawAnswer, drawn, refused, drawTable, drawBand, drawReached, drawAnswer, bufferAfter}
+use Rattle.film.specs.Draw.{DrawAnswer, drawn, refused, drawBand, drawReached, drawAnswer, bufferAfter}
 use Rattle.film.specs.Promise.{due, told, Promised}
 use Rattle.film.specs.Demand3.{Buffers, Step, put, Call, Made, over, wrote, called, Has, sizeOf, rowsOfPicture, Drew, RefusedWith, isDone, dotsTold, standing, OneOfEach, none, more, OfTheCalls}
-use Rattle.film.proofs.Rows.{length-numbered, drop-numbered, take-numbered, numbered-same, joined-cut, length-joined, take-min}
+use Rattle.film.proofs.Rows.{length-numbered, drop-numbered, take-numbered, numbered-same, joined-cut, length-rows, take-min}
 use Rattle.film.proofs.Walk.{draw-meets, not-pages, There, there}
+use Rattle.film.proofs.Answers.{answer-11, answer-12, answer-reached}
 
 -- ---- a sheet that the check passes with its load
 
 pub record Known (sheet load : List ℕ) (n : ℕ) : Type 0 where
-  pub table : first (frontTable sheet load) ≡ fine
+  pub table : front sheet load ≡ fine
   pub walk : checkLayout (loadWords load) (pageCount (words sheet)) (layoutOf (words sheet)) ≡ pages n
   pub some-lines : 0 < heraldOf (words sheet) .bandSSize
 
 pub known : (sheet load : List ℕ) (n : ℕ) → checkAnswer sheet load ≡ pages n → Known sheet load n
-unfolding checkAnswer front
+unfolding checkAnswer
 known sheet load n e =
     go (front sheet load) (checkLayout (loadWords load) (pageCount (words sheet)) (layoutOf (words sheet))) refl refl e
   where
@@ -50,52 +51,17 @@ known sheet load n e =
 
 -- ---- what a draw answers
 
--- the two lines of a draw's own table: x and y say that the page and the band are there, z that the buffer is too short
-two-lines : (x y z : Bool) → List Line
-two-lines x y z = refuse 11 0 (not x || not y) ∷ refuse 12 0 z ∷ []
-
-table-fine : (x y z : Bool) → x ≡ true → y ≡ true → z ≡ false → first (two-lines x y z) ≡ fine
-unfolding first two-lines
-table-fine x y z p q r = rw (p, q, r) refl
-
-table-12 : (x y z : Bool) → x ≡ true → y ≡ true → z ≡ true → first (two-lines x y z) ≡ refusals.refused 12 0
-unfolding first two-lines
-table-12 x y z p q r = rw (p, q, r) refl
-
-table-11 : (x y z : Bool) → (x ≡ true → y ≡ true → ⊥) → first (two-lines x y z) ≡ refusals.refused 11 0
-unfolding first two-lines
-table-11 true true z h = absurd (h refl refl)
-table-11 true false z h = refl
-table-11 false y z h = refl
-
 module _ (sheet load : List ℕ) (n : ℕ) (k : Known sheet load n) where
-  verdict : (page b room : ℕ) (v : Verdict)
-      → first (two-lines (ltb page (pageCount (words sheet))) (ltb b (bandCount (heraldOf (words sheet)))) (ltb room (sizeOf sheet b))) ≡ v
-      → first (frontTable sheet load ++ drawTable (heraldOf (words sheet)) (pageCount (words sheet)) page b room) ≡ v
-  unfolding drawTable two-lines
-  verdict page b room v e = first-fine (frontTable sheet load) _ (k .table) ∙ e
-
   pub band-there : (page b : ℕ) → Has sheet page b → There (loadWords load) (pageCount (words sheet)) n (reach (bandIndex (words sheet) page b) (layoutOf (words sheet)))
   band-there page b h = there (loadWords load) (pageCount (words sheet)) n _ _ (k .walk) (draw-meets sheet page b h)
 
   pub answer-drawn : (page b room : ℕ) → Has sheet page b → sizeOf sheet b ≤ room
       → drawAnswer sheet load page b room ≡ drawBand (heraldOf (words sheet)) b 0 (read (bandCommands sheet load page b))
-  unfolding drawAnswer bandCommands
+  unfolding bandCommands
   answer-drawn page b room h le =
       let t = band-there page b h in
-      rw (verdict page b room fine (table-fine _ _ _ (lt-ltb _ _ (h .page-there)) (lt-ltb _ _ (h .band-there)) (le-ltb _ _ le)))
-      (ap (drawReached (heraldOf (words sheet)) (loadWords load) b) (t .is) ∙ ap (drawBand (heraldOf (words sheet)) b (t .place)) (t .reads))
-
-  answer-11 : (page b room : ℕ) → ¬ (Has sheet page b) → drawAnswer sheet load page b room ≡ refused 11 0
-  unfolding drawAnswer
-  answer-11 page b room h =
-      rw (verdict page b room (refusals.refused 11 0)
-      (table-11 _ _ _ (λ p q. h (record { page-there = ltb-true _ _ p; band-there = ltb-true _ _ q })))) refl
-
-  pub answer-12 : (page b room : ℕ) → Has sheet page b → room < sizeOf sheet b → drawAnswer sheet load page b room ≡ refused 12 0
-  unfolding drawAnswer
-  answer-12 page b room h lt =
-      rw (verdict page b room (refusals.refused 12 0) (table-12 _ _ _ (lt-ltb _ _ (h .page-there)) (lt-ltb _ _ (h .band-there)) (lt-ltb _ _ lt))) refl
+      answer-reached sheet load (k .table) page b room h le
+      ∙ ap (drawReached (heraldOf (words sheet)) (loadWords load) b) (t .is) ∙ ap (drawBand (heraldOf (words sheet)) b (t .place)) (t .reads)
 
 -- ---- the rows
 
@@ -118,8 +84,7 @@ band-is sheet load page b pos =
     (λ i lt. ap (λ (c : ℕ). rowBytes (h .imageFSize) (filmOf (bandCommands sheet load page c) (bandStart h b + i))) (holds (h .bandSSize) b i (omega arith)))))
 
 pub band-size : (h : Herald) (b : ℕ) (cs : List Command) → length (joined (rowsOf (h .imageFSize) (bandStart h b) (bandRows h b) cs)) ≡ bandBytes h b
-unfolding rowsOf rowBytes
-band-size h b cs = length-joined (rowLength (h .imageFSize)) (bandStart h b) (bandRows h b) _ (λ s. length-rowOf _ _)
+band-size h b cs = length-rows (h .imageFSize) (bandStart h b) (bandRows h b) cs
 
 length-picture : (sheet load : List ℕ) (page : ℕ) → length (picture sheet load page) ≡ heraldOf (words sheet) .imageSSize
 unfolding picture
@@ -209,7 +174,7 @@ module _ (sheet load : List ℕ) (n : ℕ) (k : Known sheet load n) where
       go : (t : Bool) → leb (sizeOf sheet (c .b)) (length (c .held)) ≡ t → Drew sheet load c
       go true q = drew c e h (leb-true _ _ q)
       go false q =
-          let r = refused-with 12 c e (answer-12 sheet load n k (c .page) (c .b) (length (c .held)) h (leb-false _ _ q)) .answer-is in
+          let r = refused-with 12 c e (answer-12 sheet load (k .table) (c .page) (c .b) (length (c .held)) h (leb-false _ _ q)) .answer-is in
           absurd (false≢true (sym (ap isDone r) ∙ d))
 
   standing-is : (c : Call) → Drew sheet load c → standing sheet c ≡ rowsOfPicture sheet load (c .page) (c .b)
@@ -256,8 +221,8 @@ of-the-calls sheet load n e bs steps calls pl =
     let N = bandCount (heraldOf (words sheet)) in
     record {
       draws = λ c m h le. drew sheet load n k c (made c m) h le;
-      no-such = λ c m h. refused-with sheet load n k 11 c (made c m) (answer-11 sheet load n k (c .page) (c .b) (length (c .held)) h);
-      no-room = λ c m h lt. refused-with sheet load n k 12 c (made c m) (answer-12 sheet load n k (c .page) (c .b) (length (c .held)) h lt);
+      no-such = λ c m h. refused-with sheet load n k 11 c (made c m) (answer-11 sheet load (k .table) (c .page) (c .b) (length (c .held)) h);
+      no-room = λ c m h lt. refused-with sheet load n k 12 c (made c m) (answer-12 sheet load (k .table) (c .page) (c .b) (length (c .held)) h lt);
       whole-page = λ page cs here one. rows-from sheet load n k calls made page here 0 N cs (zero-add N) one ∙ from-0 sheet load page;
       dots-add-up = λ page cs here one.
           dots-of sheet load n k calls made page here 0 N cs (zero-add N) one

@@ -6,7 +6,10 @@ use native.Mathlib.Nat.{suc-add, add-zero, add-suc, suc-mul, zero-mul, zero-min,
 use native.Mathlib.Omega.{arith}
 use lib.ListN.{length, take, drop, length-append, take-append-drop}
 use Rattle.row.specs.Counts.{joined}
-use Rattle.imaging.specs.Pictures.{numbered}
+use Rattle.row.proofs.Dots.{length-rowOf}
+use Rattle.commands.specs.Commands.{Command}
+use Rattle.sheet.specs.Herald.{rowLength}
+use Rattle.imaging.specs.Pictures.{rowBytes, numbered, rowsOf}
 
 pub length-numbered : (i n : ℕ) (f : ℕ → List ℕ) → length (numbered i n f) ≡ n
 unfolding numbered
@@ -53,3 +56,8 @@ pub take-min : (n : ℕ) (l : List (List ℕ)) → take (min n (length l)) l ≡
 take-min zero l = rw zero-min
 take-min (suc n) [] = rw min-zero
 take-min (suc n) (x ∷ l) = rw suc-min-suc (ap (λ (r : List (List ℕ)). x ∷ r) (take-min n l))
+
+-- the rows of a film on which commands were carried out
+pub length-rows : (width first rows : ℕ) (cs : List Command) → length (joined (rowsOf width first rows cs)) ≡ rows * rowLength width
+unfolding rowsOf rowBytes
+length-rows width first rows cs = length-joined (rowLength width) first rows _ (λ s. length-rowOf _ _)

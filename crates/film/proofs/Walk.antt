@@ -12,7 +12,7 @@ use Rattle.words.specs.Words.{words}
 use Rattle.commands.specs.Band.{Reading, read, refusedAt, readBand}
 use Rattle.sheet.specs.Herald.{heraldOf, pageCount, bandCount}
 use Rattle.sheet.specs.Layout.{Layout, end, bad, band, bandsThen, pagesFrom, layoutOf, bandIndex, Reached, found, stopped, nowhere, reach}
-use Rattle.sheet.specs.Check.{pages, refused, passBand, checkLayout}
+use Rattle.sheet.specs.Check.{pages, refused, bandVerdict, checkAfter, checkLayout}
 use Rattle.film.specs.Picture.{wordsReached, commandsRead}
 use Rattle.film.specs.Demand3.{Has}
 
@@ -70,7 +70,7 @@ module _ (load : List ℕ) (n r : ℕ) where
   unfolding checkLayout
   ok-band p ws rest e = go (readBand load ws) refl e
     where
-      go : (x : Reading) → readBand load ws ≡ x → passBand p x (checkLayout load n rest) ≡ pages r → OkBand ws rest
+      go : (x : Reading) → readBand load ws ≡ x → checkAfter (bandVerdict p x) (checkLayout load n rest) ≡ pages r → OkBand ws rest
       go (read cs) q e = record { reads = rw q refl; after = e }
       go (refusedAt k i) q e = absurd (not-pages k (p + i) r e)
 

@@ -35,12 +35,17 @@ drawTable h pages page b room =
     ∷ refuse 12 0 (ltb room (bandBytes h b))
     ∷ []
 
--- band b, whose commands begin at place p and were all read: dots is the number of one bits in its rows
+-- `rows` rows of `width` dots from line `first` on, by commands that begin at place p: where all were read, dots is the number of one bits in the
+-- rows
+abbrev pub drawRows : (width first rows p : ℕ) → Reading → DrawAnswer
+drawRows width first rows p (read cs) =
+    let bytes = joined (rowsOf width first rows cs) in
+    drawn rows (onesOf bytes) bytes
+drawRows width first rows p (refusedAt n i) = refused n (p + i)
+
+-- band b, whose commands begin at place p
 abbrev pub drawBand : Herald → (b p : ℕ) → Reading → DrawAnswer
-drawBand h b p (read cs) =
-    let bytes = joined (rowsOf (h .imageFSize) (bandStart h b) (bandRows h b) cs) in
-    drawn (bandRows h b) (onesOf bytes) bytes
-drawBand h b p (refusedAt n i) = refused n (p + i)
+drawBand h b = drawRows (h .imageFSize) (bandStart h b) (bandRows h b)
 
 -- Draw looks at counts on its way, at its own band's commands, and at nothing else. The end of the pages is never met: 11 came before the walk.
 abbrev pub drawReached : Herald → (load : List ℕ) (b : ℕ) → Reached → DrawAnswer

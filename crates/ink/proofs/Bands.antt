@@ -138,7 +138,7 @@ module _ (width first rows : ℕ) (C : Colour) where
           ∙ rowOf-same (length buf) (dots N (dots M (dotAt buf))) both (λ g l. twice g))
 
   -- a buffer that is not shorter than the rows
-  band-is : (M : Film) (buf : List ℕ) → rows * rowLength width ≤ length buf → band M buf ≡ rowOf (length buf) (dots M (dotAt buf))
+  pub band-is : (M : Film) (buf : List ℕ) → rows * rowLength width ≤ length buf → band M buf ≡ rowOf (length buf) (dots M (dotAt buf))
   unfolding paintedBand
   band-is M buf h = ap (λ (t : Bool). cond t (rowOf (length buf) (dots M (dotAt buf))) buf) (le-leb (rows * rowLength width) (length buf) h)
 

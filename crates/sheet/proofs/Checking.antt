@@ -8,6 +8,7 @@ use lib.Seq.{drop-cons}
 use Rattle.words.specs.Words.{words, at}
 use Rattle.words.specs.Parts.{partOf}
 use Rattle.words.specs.Load.{loadWords}
+use Rattle.words.proofs.Parts.{part-past}
 use Rattle.commands.specs.Commands.{Command, commandIn}
 use Rattle.commands.specs.Band.{Reading, read, refusedAt, priorityAfter, withCommand, readFrom, readBand}
 use Rattle.commands.specs.Answers.{placed, commandOf}
@@ -19,7 +20,7 @@ use Rattle.sheet.specs.Herald.{heraldOf, pageCount, bandCount}
 use Rattle.sheet.specs.Refusals.{Verdict, fine, front}
 use Rattle.sheet.specs.Refusals as refusals
 use Rattle.sheet.specs.Layout.{Layout, end, bad, layoutOf}
-use Rattle.sheet.specs.Check.{CheckAnswer, refused, passBand, checkLayout, checkAfter, checkAnswer}
+use Rattle.sheet.specs.Check.{CheckAnswer, refused, bandVerdict, checkLayout, checkAfter, checkAnswer}
 use Rattle.sheet.specs.Check as check
 use Rattle.sheet.proofs.Walk.{layoutFrom, walk-start, walk-band, walk-end}
 use Rattle.sheet.proofs.Band.{no-more, next-command, next-refusal}
@@ -27,26 +28,34 @@ use Rattle.sheet.proofs.Band.{no-more, next-command, next-refusal}
 -- ---- in the band from place b up to e
 
 -- a command in front is passed
-pass-command : (b : ℕ) (c : Command) (r : Reading) (a : CheckAnswer) → passBand b (withCommand c r) a ≡ passBand b r a
-pass-command b c (read cs) a = refl
-pass-command b c (refusedAt n i) a = refl
+pass-command : (b : ℕ) (c : Command) (r : Reading) → bandVerdict b (withCommand c r) ≡ bandVerdict b r
+pass-command b c (read cs) = refl
+pass-command b c (refusedAt n i) = refl
 
--- the commands before place p are taken, and `least` is the priority after them: the band's answer is that of the commands from p on
+-- what is said of the band
+abbrev pub band-says : (sheet load : List ℕ) (b e : ℕ) → Verdict
+band-says sheet load b e = bandVerdict b (readBand (loadWords load) (words (partOf sheet b e)))
+
+-- a band that the sheet has not is fine
+pub band-none : (sheet load : List ℕ) (b e : ℕ) → length (words sheet) < e → fine ≡ band-says sheet load b e
+unfolding readBand readFrom words
+band-none sheet load b e h = sym (ap (λ (r : List ℕ). bandVerdict b (readBand (loadWords load) (words r))) (part-past sheet b e h))
+
+-- the commands before place p are taken, and `least` is the priority after them: the verdict is that of the commands from p on
 pub record BandTo (sheet load : List ℕ) (b e p least : ℕ) : Type 0 where
-  pub is : (a : CheckAnswer) → passBand b (readBand (loadWords load) (words (partOf sheet b e))) a
-      ≡ passBand b (readFrom (loadWords load) least 0 (p - b) (words (partOf sheet p e))) a
+  pub is : band-says sheet load b e ≡ bandVerdict b (readFrom (loadWords load) least 0 (p - b) (words (partOf sheet p e)))
 
 -- at its first command
 pub band-start : (sheet load : List ℕ) (b e : ℕ) → BandTo sheet load b e b 0
 unfolding readBand
 band-start sheet load b e =
     let z : 0 ≡ b - b = omega arith in
-    record { is = λ a. ap (λ (k : ℕ). passBand b (readFrom (loadWords load) 0 0 k (words (partOf sheet b e))) a) z }
+    record { is = ap (λ (k : ℕ). bandVerdict b (readFrom (loadWords load) 0 0 k (words (partOf sheet b e)))) z }
 
 module _ {sheet load : List ℕ} {b e p least : ℕ} (w : BandTo sheet load b e p least) where
   -- no command is left
-  pub band-done : e ≤ p → (a : CheckAnswer) → a ≡ passBand b (readBand (loadWords load) (words (partOf sheet b e))) a
-  band-done h a = sym (w .is a ∙ ap (λ (r : Reading). passBand b r a) (no-more (loadWords load) least (p - b) sheet p e h))
+  pub band-done : e ≤ p → fine ≡ band-says sheet load b e
+  band-done h = sym (w .is ∙ ap (bandVerdict b) (no-more (loadWords load) least (p - b) sheet p e h))
 
   -- the reader gives r
   module _ (f : b ≤ p) (h : p < e) (l : e ≤ length (words sheet)) (r : code.Read)
@@ -62,20 +71,19 @@ module _ {sheet load : List ℕ} {b e p least : ℕ} (w : BandTo sheet load b e 
         let on : p - b + (next - p) ≡ next - b = omega arith in (
           after,
           record {
-            is = λ a.
-                w .is a ∙ ap (λ (u : Reading). passBand b u a) (s .1) ∙ pass-command b c (rest (priorityAfter least c) (p - b + (next - p))) a
-                ∙ ap₂ (λ (i k : ℕ). passBand b (rest i k) a) (sym q) on;
+            is =
+                w .is ∙ ap (bandVerdict b) (s .1) ∙ pass-command b c (rest (priorityAfter least c) (p - b + (next - p)))
+                ∙ ap₂ (λ (i k : ℕ). bandVerdict b (rest i k)) (sym q) on;
           },
         )
 
     -- a refusal
-    pub band-stops : (number place : ℕ) → r ≡ Refused number place
-        → (a : CheckAnswer) → refused number place ≡ passBand b (readBand (loadWords load) (words (partOf sheet b e))) a
-    band-stops number place y a =
+    pub band-stops : (number place : ℕ) → r ≡ Refused number place → refusals.refused number place ≡ band-says sheet load b e
+    band-stops number place y =
         let s = next-refusal sheet load least (p - b) p e h l r x number place y in
         let after : p ≤ place = s .0 in
         let on : b + (p - b + (place - p)) ≡ place = omega arith in
-        sym (w .is a ∙ ap (λ (u : Reading). passBand b u a) (s .1) ∙ ap (refused number) on)
+        sym (w .is ∙ ap (bandVerdict b) (s .1) ∙ ap (refusals.refused number) on)
 
 -- ---- in the walk
 
@@ -107,12 +115,12 @@ module _ {sheet load : List ℕ} {m pages bands p : ℕ} (w : CheckedTo sheet lo
 
   -- a band of c words, of whose commands v is said
   module _ (c : ℕ) (h : p < length (words sheet)) (i : c ≡ at (words sheet) p) (z : 0 < bands) (o : c ≤ length (words sheet) - p - 1) (v : Verdict)
-      (x : (a : CheckAnswer) → checkAfter v a ≡ passBand (p + 1) (readBand (loadWords load) (words (partOf sheet (p + 1) (p + 1 + c)))) a) where
+      (x : v ≡ band-says sheet load (p + 1) (p + 1 + c)) where
     after-band : (u : Verdict) → v ≡ u → whole-walk sheet load ≡ checkAfter u (says sheet load (layoutFrom sheet m pages (bands - 1) (p + 1 + c)))
     unfolding checkLayout
     after-band u f =
         let rest = says sheet load (layoutFrom sheet m pages (bands - 1) (p + 1 + c)) in
-        w .is ∙ ap (says sheet load) (walk-band sheet m p c h i pages bands z o) ∙ sym (x rest) ∙ ap (λ (y : Verdict). checkAfter y rest) f
+        w .is ∙ ap (says sheet load) (walk-band sheet m p c h i pages bands z o) ∙ ap (λ (y : Verdict). checkAfter y rest) (sym x ∙ f)
 
     -- it is passed
     pub check-band : v ≡ fine → CheckedTo sheet load m pages (bands - 1) (p + 1 + c)

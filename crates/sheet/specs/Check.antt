@@ -18,22 +18,22 @@ pub data CheckAnswer : Type 0 where
   pages : (count : ℕ) → CheckAnswer
   refused : (number place : ℕ) → CheckAnswer
 
--- a band's commands, whose first has place p, and then the rest
-abbrev pub passBand : ℕ → Reading → CheckAnswer → CheckAnswer
-passBand p (read cs) rest = rest
-passBand p (refusedAt n i) rest = refused n (p + i)
+-- of a band's commands, whose first has place p
+abbrev pub bandVerdict : ℕ → Reading → Verdict
+bandVerdict p (read cs) = fine
+bandVerdict p (refusedAt n i) = refusals.refused n (p + i)
+
+-- what comes after a verdict
+abbrev pub checkAfter : Verdict → CheckAnswer → CheckAnswer
+checkAfter fine a = a
+checkAfter (refusals.refused n p) a = refused n p
 
 -- the walk over all bands; 10: words after the last page
 unfoldable pub checkLayout : List ℕ → ℕ → Layout → CheckAnswer
 checkLayout load n (end p []) = pages n
 checkLayout load n (end p (w ∷ ws)) = refused 10 p
 checkLayout load n (bad k p) = refused k p
-checkLayout load n (band p ws rest) = passBand p (readBand load ws) (checkLayout load n rest)
-
--- what comes after the table
-abbrev pub checkAfter : Verdict → CheckAnswer → CheckAnswer
-checkAfter fine a = a
-checkAfter (refusals.refused n p) a = refused n p
+checkLayout load n (band p ws rest) = checkAfter (bandVerdict p (readBand load ws)) (checkLayout load n rest)
 
 unfoldable pub checkAnswer : List ℕ → List ℕ → CheckAnswer
 checkAnswer sheet load =

@@ -8,10 +8,10 @@ ghost use Rattle.words.specs.Parts.{partOf};
 ghost use Rattle.words.specs.Load.{loadWords};
 ghost use Rattle.commands.specs.Band.{priorityAfter, readBand};
 ghost use Rattle.commands.specs.Answers.{commandOf};
-ghost use Rattle.sheet.specs.Herald.{heraldOf, pageCount, bandCount};
+ghost use Rattle.sheet.specs.Herald.{heraldOf, pageCount, bandCount, rowLength};
 ghost use Rattle.sheet.specs.Refusals.{fine, refuse, first, orElse, front, outside};
 ghost use Rattle.sheet.specs.Layout.{layoutOf};
-ghost use Rattle.sheet.specs.Check.{CheckAnswer, passBand, checkLayout, checkAfter, checkAnswer};
+ghost use Rattle.sheet.specs.Check.{bandVerdict, checkLayout, checkAnswer};
 ghost use Rattle.sheet.specs.Answers.{told, answered};
 use commands::Command;
 use commands::Read;
@@ -93,7 +93,7 @@ fn stopped(r: Read) -> Front
 }
 
 // The priority after a command.
-fn priority_after(least: u32, c: Command) -> u32
+pub fn priority_after(least: u32, c: Command) -> u32
     ensures { λ r. ⌜ ((s l : List ℕ) → r ≡ priorityAfter least (commandOf s l c)) ⌝ }
 {
     match c {
@@ -102,11 +102,13 @@ fn priority_after(least: u32, c: Command) -> u32
     }
 }
 
-// The commands of a band, from place `from` up to, not including, place `end`.
-fn check_band(sheet: &[u8], load: &[u8], from: usize, end: usize) -> Front
-    requires { ⌜ (from ≤ end) × (end ≤ length (words (now sheet))) ⌝ }
-    ensures { λ r. ⌜ ((a : CheckAnswer) → checkAfter (told r) a ≡ passBand from (readBand (loadWords (now (load .entry))) (words (partOf (now (sheet .entry)) from end))) a) ⌝ }
+// The test of a band's commands, from place `from` up to, not including, place `end`. A sheet that ends before `end` has none there.
+pub fn test_band(sheet: &[u8], load: &[u8], from: usize, end: usize) -> Front
+    ensures { λ r. ⌜ told r ≡ bandVerdict from (readBand (loadWords (now (load .entry))) (words (partOf (now (sheet .entry)) from end))) ⌝ }
 {
+    if end > sheet.len() / 2 {
+        return Front::Fine;
+    }
     let mut p = from;
     let mut least: u32 = 0;
     while p < end {
@@ -120,13 +122,22 @@ fn check_band(sheet: &[u8], load: &[u8], from: usize, end: usize) -> Front
     Front::Fine
 }
 
-// How many bands a page has.
-fn bands_per_page(sheet: &[u8]) -> usize
-    requires { ⌜ 0 < heraldOf (words (now sheet)) .bandSSize ⌝ }
+// The bytes of a row of `width` dots.
+pub fn row_bytes(width: u16) -> usize
+    ensures { λ r. ⌜ r ≡ rowLength width ⌝ }
+{
+    2 * ((width as usize + 15) / 16)
+}
+
+// How many bands a page has; 0 where the herald's bands have no lines.
+pub fn bands_per_page(sheet: &[u8]) -> usize
     ensures { λ r. ⌜ r ≡ bandCount (heraldOf (words (now (sheet .entry)))) ⌝ }
 {
     let lines = word(sheet, 5) as usize;
     let band = word(sheet, 7) as usize;
+    if band == 0 {
+        return 0;
+    }
     (lines + (band - 1)) / band
 }
 
@@ -152,7 +163,7 @@ fn check_pages(sheet: &[u8], load: &[u8]) -> Checked
             }
             let from = p + 1;
             let end = from + c;
-            if let Front::Refused(n, q) = check_band(sheet, load, from, end) {
+            if let Front::Refused(n, q) = test_band(sheet, load, from, end) {
                 return Checked::Refused(n, q);
             }
             p = end;

@@ -1,5 +1,7 @@
 -- `sheet::bands_per_page` meets its contract: a quotient, rounded up. Assumes nothing.
-use mathlib.Core.Path.{ap₂}
+use mathlib.Core.Path.{_≡_, sym, ap, ap₂, _∙_}
+use Prim.Native.Nat.{ℕ, _+_, _-_}
+use native.Mathlib.Nat.{div-zero}
 use native.Mathlib.Omega.{arith}
 use Rattle.words.specs.Words.{ceilDiv}
 use Rattle.sheet.specs.Herald.{bandCount}
@@ -27,9 +29,17 @@ add-result c = omega arith
 div-result : tie.Need-div-result
 div-result c = omega arith
 
+-- no lines in a band
+none : (n d : ℕ) → d ≡ 0 → 0 ≡ ceilDiv n d
+none n d e = sym (ap (ceilDiv n) e ∙ div-zero (n + (0 - 1)))
+
 returns : tie.Need-returns
 unfolding bandCount
-returns c = ap₂ ceilDiv (c .before .word .ensures) (c .word2 .ensures)
+returns c = none _ _ (sym (c .before .word2 .ensures) ∙ c .if1 .taken)
+
+returns-2 : tie.Need-returns-2
+unfolding bandCount
+returns-2 c = ap₂ ceilDiv (c .before .before .word .ensures) (c .before .word2 .ensures)
 
 pub bands-per-page-spec : {M : Type 1} → statement M
 bands-per-page-spec =
@@ -39,7 +49,8 @@ bands-per-page-spec =
     cast-lines
     word-requires-2
     cast-band
+    returns
     sub-result
     add-result
     div-result
-    returns)
+    returns-2)

@@ -22,9 +22,7 @@ abbrev μ-loop : tie.MeasureT-loop
 μ-loop sheet load len per-page count pages₀ bands₀ p₀ pages bands p = len - p
 
 bands-per-page-requires : tie.Need-bands-per-page-requires Inv-loop μ-loop
-bands-per-page-requires c κs =
-    let s = c .before .before in
-    front-fine (s .args .sheet .now) (s .args .load .now) (s .pre) .band-low
+bands-per-page-requires c κs = tt
 
 word-requires : tie.Need-word-requires Inv-loop μ-loop
 word-requires c κs = tt
@@ -76,8 +74,8 @@ add-from c = omega arith
 add-end : tie.Need-add-end Inv-loop μ-loop
 add-end c = omega arith
 
-check-band-requires : tie.Need-check-band-requires Inv-loop μ-loop
-check-band-requires c κs = (omega arith, omega arith)
+test-band-requires : tie.Need-test-band-requires Inv-loop μ-loop
+test-band-requires c κs = tt
 
 enum-known-n : tie.Need-enum-known-n Inv-loop μ-loop
 enum-known-n c = c .match .keys1
@@ -87,7 +85,7 @@ returns-3 c =
     let k = c .before .before .before in
     let w = k .before .before .before in
     let l = w .before .before .before .loop in
-    check-stops (l .inv .5) _ (omega arith) (w .word2 .ensures) (omega arith) (omega arith) _ (k .check-band .ensures) _ _
+    check-stops (l .inv .5) _ (omega arith) (w .word2 .ensures) (omega arith) (omega arith) _ (k .test-band .ensures) _ _
     (ap told (c .before .n .given .1))
 
 enum-told : tie.Need-enum-told Inv-loop μ-loop
@@ -109,7 +107,7 @@ loop-again c =
       omega arith,
       omega arith,
       l .inv .4,
-      check-band (l .inv .5) _ (omega arith) (w .word2 .ensures) (omega arith) (omega arith) _ (k .check-band .ensures)
+      check-band (l .inv .5) _ (omega arith) (w .word2 .ensures) (omega arith) (omega arith) _ (k .test-band .ensures)
           (ap told (c .enum-told .given .1)),
     )
 
@@ -167,7 +165,7 @@ check-pages-spec =
     returns-2
     add-from
     add-end
-    check-band-requires
+    test-band-requires
     enum-known-n
     returns-3
     enum-told

@@ -1,0 +1,6 @@
+// Lists a sheet of 65,536 bytes, the longest that it lists. The program is that of crates/listing.
+fn main() {
+    let mut input = [0u8; 65537];
+    let n = io::read_full(0, &mut input);
+    lister::list(&input[..n]);
+}
