@@ -14,7 +14,7 @@ use Rattle.words.specs.Words.{words, at}
 use Rattle.words.specs.Load.{loadWords}
 use Rattle.commands.specs.Commands.{Command}
 use Rattle.commands.specs.Band.{readBand, read}
-use Rattle.sheet.specs.Herald.{Herald, heraldOf, pageCount, bandCount, bandBytes}
+use Rattle.herald.specs.Herald.{Herald, heraldOf, pageCount, bandCount, bandBytes}
 use Rattle.sheet.specs.Layout.{Layout, bad, band, bandsThen, pagesFrom, layoutOf, bandIndex, Reached, found, stopped, nowhere, reach}
 use Rattle.sheet.specs.Check.{pages, checkLayout}
 use Rattle.film.specs.Picture.{wordsReached, commandsRead, bandCommands}

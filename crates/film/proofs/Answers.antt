@@ -1,18 +1,18 @@
 -- What a draw answers, by the tables of its refusals. Assumes nothing.
-use mathlib.Core.Path.{_≡_, refl, ap, _∙_}
+use mathlib.Core.Path.{_≡_, refl}
 use mathlib.Core.Bool.{Bool, true, false, not, _||_}
-use mathlib.Core.List.{List, [], _∷_, _++_}
+use mathlib.Core.List.{List, [], _∷_}
 use Prim.Native.Nat.{ℕ, _≤_, _<_}
 use borrow.Author.Tests.{lt-ltb, le-ltb, ltb-true}
 use lib.Dec.{ltb}
 use Rattle.words.specs.Words.{words}
 use Rattle.words.specs.Load.{loadWords}
-use Rattle.sheet.specs.Herald.{heraldOf, pageCount, bandCount}
-use Rattle.sheet.specs.Refusals.{Verdict, fine, Line, refuse, first, orElse, frontTable, front}
-use Rattle.sheet.specs.Refusals as refusals
+use Rattle.herald.specs.Herald.{heraldOf, pageCount, bandCount}
+use Rattle.herald.specs.Refusals.{Verdict, fine, Line, refuse, first, orElse, frontTable, front}
+use Rattle.herald.specs.Refusals as refusals
 use Rattle.sheet.specs.Layout.{layoutOf, bandIndex, reach}
-use Rattle.sheet.proofs.Refusals.{first-append}
-use Rattle.film.specs.Draw.{DrawAnswer, refused, drawTable, drawReached, drawAfter, drawAnswer}
+use Rattle.herald.proofs.Refusals.{first-append}
+use Rattle.film.specs.Draw.{refused, drawTable, drawReached, drawAfter, drawAnswer}
 use Rattle.film.specs.Demand3.{Has, sizeOf}
 
 -- the two lines of a draw's own table: x and y say that the page and the band are there, z that the buffer is too short

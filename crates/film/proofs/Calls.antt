@@ -1,28 +1,27 @@
 -- Demand 3's part about the calls. Assumes nothing.
 use mathlib.Core.Path.{_≡_, refl, sym, ap, ap₂, _∙_, subst}
 use mathlib.Core.Logic.{_⊎_, inl, inr}
-use mathlib.Core.Bool.{Bool, true, false, false≢true, not, _||_}
-use mathlib.Core.List.{List, [], _∷_, _++_, List·Memᴰ, List·Memᴰ·not-nil, List·Memᴰ·cases-cons, map}
+use mathlib.Core.Bool.{Bool, true, false, false≢true}
+use mathlib.Core.List.{List, [], _++_, List·Memᴰ, List·Memᴰ·not-nil, List·Memᴰ·cases-cons, map}
 use Prim.Native.Nat.{ℕ, suc, _+_, _*_, _-_, _/_, _≤_, _<_, min}
 use native.Mathlib.Nat.{mul-zero, mul-suc, zero-add, mul-add-div, div-eq-of-lt, add-zero, div-add-mod, mod-lt}
 use native.Mathlib.Omega.{arith}
-use borrow.Author.Tests.{lt-ltb, le-ltb, ltb-true, leb-true, leb-false}
-use lib.Dec.{leb, ltb}
+use borrow.Author.Tests.{leb-true, leb-false}
+use lib.Dec.{leb}
 use lib.ListN.{length, take, drop, length-drop, drop-of-length-le}
 use lib.Seq.{drop-drop, take-at}
 use Rattle.row.specs.Counts.{onesOf, joined, total}
 use Rattle.row.proofs.Counts.{ones-append}
-use Rattle.row.proofs.Dots.{length-rowOf}
 use Rattle.words.specs.Words.{words, ceilDiv}
 use Rattle.words.specs.Load.{loadWords}
 use Rattle.commands.specs.Commands.{Command}
 use Rattle.commands.specs.Band.{read}
-use Rattle.sheet.specs.Herald.{Herald, heraldOf, pageCount, bandCount, bandStart, bandRows, bandBytes, rowLength}
-use Rattle.sheet.specs.Refusals.{Verdict, fine, front}
-use Rattle.sheet.specs.Refusals as refusals
+use Rattle.herald.specs.Herald.{Herald, heraldOf, pageCount, bandCount, bandStart, bandRows, bandBytes}
+use Rattle.herald.specs.Refusals.{Verdict, fine, front}
+use Rattle.herald.specs.Refusals as refusals
 use Rattle.sheet.specs.Layout.{layoutOf, bandIndex, reach}
 use Rattle.sheet.specs.Check.{CheckAnswer, pages, checkAfter, checkLayout, checkAnswer}
-use Rattle.sheet.proofs.Refusals.{front-fine}
+use Rattle.herald.proofs.Refusals.{front-fine}
 use Rattle.imaging.specs.Pictures.{rowBytes, filmOf, rowsOf}
 use Rattle.film.specs.Picture.{bandCommands, picture}
 use Rattle.film.specs.Draw.{DrawAnswer, drawn, refused, drawBand, drawReached, drawAnswer, bufferAfter}

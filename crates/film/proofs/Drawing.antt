@@ -1,8 +1,7 @@
 -- Laws of the draw of one band: its lines, and its answer and buffer by what was read. Assumes nothing.
 use mathlib.Core.Path.{_≡_, refl, sym, ap, ap₂, _∙_}
 use mathlib.Core.List.{List, _++_}
-use Prim.Native.Nat.{ℕ, suc, _+_, _*_, _-_, _/_, _<_, _≤_, min}
-use native.Mathlib.Nat.{div-mul-le-self, mul-le-mul-right, mul-comm, suc-mul}
+use Prim.Native.Nat.{ℕ, _+_, _*_, _-_, _<_, _≤_, min}
 use native.Mathlib.Omega.{arith}
 use lib.ListN.{length, take, drop}
 use lib.Seq.{take-append-seam}
@@ -10,18 +9,18 @@ use Rattle.row.specs.Counts.{onesOf, joined}
 use Rattle.words.specs.Words.{words}
 use Rattle.words.specs.Parts.{partOf}
 use Rattle.words.specs.Load.{loadWords}
-use Rattle.commands.specs.Band.{Reading, read, refusedAt, readBand}
-use Rattle.sheet.specs.Herald.{Herald, heraldOf, bandCount, bandStart, bandRows, bandBytes, rowLength}
-use Rattle.sheet.specs.Refusals.{Verdict, fine, front}
-use Rattle.sheet.specs.Refusals as refusals
+use Rattle.commands.specs.Band.{Reading, read, refusedAt}
+use Rattle.herald.specs.Herald.{heraldOf, bandCount, bandStart, bandRows, rowLength}
+use Rattle.herald.specs.Refusals.{fine, front}
+use Rattle.herald.specs.Refusals as refusals
 use Rattle.sheet.specs.Layout.{layoutOf, bandIndex, Reached, found, stopped, nowhere, reach}
-use Rattle.sheet.specs.Check.{bandVerdict}
-use Rattle.sheet.proofs.Refusals.{front-fine}
-use Rattle.sheet.proofs.Walk.{few-bands}
+use Rattle.sheet.specs.Check.{reading, bandVerdict}
+use Rattle.herald.proofs.Herald.{begins}
 use Rattle.imaging.specs.Pictures.{rowsOf}
 use Rattle.film.specs.Picture.{commandsRead}
-use Rattle.film.specs.Draw.{DrawAnswer, drawn, refused, drawRows, drawReached, drawAnswer, bufferAfter}
-use Rattle.film.specs.Promise.{Told, done, refusal, told, due, Promised}
+use Rattle.film.specs.Draw.{DrawAnswer, refused, drawRows, drawReached, drawAnswer, bufferAfter}
+use Rattle.film.specs.Promise.{done, refusal, told, due, Promised}
+use Rattle.film.specs.Functions.{AllRead}
 use Rattle.film.specs.Demand3.{Has, sizeOf}
 use Rattle.film.specs.declared.Drawn.{Drawn}
 use Rattle.film.specs.declared.Drawn.the-variants.{Refused}
@@ -30,35 +29,11 @@ use Rattle.film.proofs.Answers.{answer-reached}
 
 -- ---- a band's lines
 
--- band b begins on the page
-pub begins : (h : Herald) (b : ℕ) → 0 < h .bandSSize → b < bandCount h → bandStart h b < h .imageSSize
-unfolding bandCount
-begins h b z l =
-    let B = h .bandSSize in
-    let x = h .imageSSize + (B - 1) in
-    let up : suc b * B ≤ x / B * B = mul-le-mul-right B l in
-    omega (arith, div-mul-le-self x B, suc-mul b B, mul-comm b B)
-
--- its rows take at most 65,536 bytes
-pub few-bytes : (sheet load : List ℕ) (b : ℕ) → front sheet load ≡ fine → bandBytes (heraldOf (words sheet)) b ≤ 65536
-few-bytes sheet load b f =
-    let h = heraldOf (words sheet) in
-    let fewer : bandRows h b ≤ h .bandSSize = omega arith in
-    omega (arith, mul-le-mul-right (rowLength (h .imageFSize)) fewer, front-fine sheet load f .band-bytes)
-
--- a page has at most 65,535 bands
-pub most-bands : (sheet load : List ℕ) → front sheet load ≡ fine → bandCount (heraldOf (words sheet)) ≤ 65535
-most-bands sheet load f =
-    let x = front-fine sheet load f in omega (arith, few-bands (heraldOf (words sheet)), x .lines-high, x .band-high)
-
 -- the lines as the code works them out: n of the page and m of a whole band, r of band b
-module _ (sheet load : List ℕ) (b n m : ℕ) (f : front sheet load ≡ fine) (l : b < bandCount (heraldOf (words sheet)))
+module _ (sheet : List ℕ) (b n m : ℕ) (z : 0 < heraldOf (words sheet) .bandSSize) (l : b < bandCount (heraldOf (words sheet)))
     (en : n ≡ heraldOf (words sheet) .imageSSize) (em : m ≡ heraldOf (words sheet) .bandSSize) where
   pub first-line : m * b < n
-  first-line = rw (en, em) (begins (heraldOf (words sheet)) b (front-fine sheet load f .band-low) l)
-
-  pub lines-high : n ≤ 32768
-  lines-high = rw en (front-fine sheet load f .lines-high)
+  first-line = rw (en, em) (begins (heraldOf (words sheet)) b z l)
 
   pub start-is : m * b ≡ bandStart (heraldOf (words sheet)) b
   start-is = ap (λ (x : ℕ). x * b) em
@@ -73,16 +48,12 @@ pub within-rows : (rows width w : ℕ) (buf buf′ : List ℕ) → w ≡ rowLeng
     → rows * rowLength width ≤ length buf → rows * rowLength width ≤ 65536 → (rows * w ≤ length buf′) × (rows * w ≤ 65536)
 within-rows rows width w buf buf′ e l h m = rw (e, l) (h, m)
 
--- what is read of the commands from place `from` up to `end`
-abbrev pub reading : (sheet load : List ℕ) (from end : ℕ) → Reading
-reading sheet load from end = readBand (loadWords load) (words (partOf sheet from end))
+-- commands that are all fine were all read
+pub all-read : (from : ℕ) (x : Reading) → fine ≡ bandVerdict from x → AllRead x
+all-read from (read cs) e = refl
+all-read from (refusedAt n i) e = let z : _≡_ {A = ℕ} 0 1 = cc in absurd (omega arith)
 
 module _ (width first rows from : ℕ) where
-  -- commands that are all fine were all read
-  pub all-read : (x : Reading) → fine ≡ bandVerdict from x → x ≡ read (commandsRead x)
-  all-read (read cs) e = refl
-  all-read (refusedAt n i) e = let z : _≡_ {A = ℕ} 0 1 = cc in absurd (omega arith)
-
   -- one of them is refused
   pub band-refused : (x : Reading) (n p : ℕ) (buf : List ℕ) → refusals.refused n p ≡ bandVerdict from x
       → (refusal n p ≡ due (drawRows width first rows from x)) × (buf ≡ bufferAfter (drawRows width first rows from x) buf)

@@ -1,12 +1,12 @@
 -- Laws of the walk to a band. Assumes nothing.
-use mathlib.Core.Path.{_≡_, refl, sym, ap, _∙_}
+use mathlib.Core.Path.{_≡_, sym, ap, _∙_}
 use mathlib.Core.List.{List}
-use Prim.Native.Nat.{ℕ, zero, suc, _+_, _-_, _<_, _≤_}
+use Prim.Native.Nat.{ℕ, suc, _+_, _-_, _<_, _≤_}
 use native.Mathlib.Omega.{arith}
-use lib.ListN.{length, drop}
+use lib.ListN.{length}
 use Rattle.words.specs.Words.{words, at}
 use Rattle.words.specs.Parts.{partOf}
-use Rattle.sheet.specs.Herald.{heraldOf, pageCount, bandCount}
+use Rattle.herald.specs.Herald.{heraldOf, pageCount, bandCount}
 use Rattle.sheet.specs.Layout.{Layout, bad, band, layoutOf, found, stopped, nowhere, reach}
 use Rattle.sheet.proofs.Walk.{layoutFrom, walk-start, walk-band, walk-end}
 

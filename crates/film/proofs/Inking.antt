@@ -2,8 +2,8 @@
 use mathlib.Core.Path.{_≡_, refl, sym, ap, ap₂, _∙_, fun-ext}
 use mathlib.Core.Bool.{Bool, true, false, cond, _&&_, and-false}
 use mathlib.Core.List.{List, [], _∷_, _++_}
-use Prim.Native.Nat.{ℕ, zero, suc, _+_, _-_, _*_, _/_, _%_, _^_, _<_, _≤_}
-use native.Mathlib.Nat.{add-zero, add-comm, zero-mul, suc-mul, mul-left-comm, div-eq-of-lt, mod-eq-of-lt, add-div-left, add-mod-left, div-lt-iff-lt-mul, le-div-iff-mul-le, mul-le-mul, le-of-suc-le-suc}
+use Prim.Native.Nat.{ℕ, zero, suc, _+_, _-_, _*_, _/_, _%_, _<_, _≤_}
+use native.Mathlib.Nat.{add-zero, add-comm, zero-mul, suc-mul, mul-left-comm, div-eq-of-lt, mod-eq-of-lt, add-div-left, add-mod-left, div-lt-iff-lt-mul, le-div-iff-mul-le}
 use native.Mathlib.Numerals.{add-one}
 use native.Mathlib.Omega.{arith}
 use borrow.Author.Tests.{lt-ltb, le-ltb}
@@ -22,7 +22,7 @@ use Rattle.commands.specs.Answers.{placed, commandOf, told}
 use Rattle.commands.specs.declared.Command as code-command
 use Rattle.commands.specs.declared.Read as code-read
 use Rattle.commands.specs.declared.Read.the-variants.{Whole, Refused}
-use Rattle.sheet.specs.Herald.{rowLength}
+use Rattle.herald.specs.Herald.{rowLength}
 use Rattle.sheet.proofs.Band.{no-more, next-command, next-refusal}
 use Rattle.imaging.specs.Masks.{Film}
 use Rattle.imaging.specs.Colours.{Colour, painted}
@@ -37,10 +37,6 @@ use Rattle.ink.specs.Bands.{paintedDot, paintedBand}
 use Rattle.ink.proofs.Bands.{band-is}
 use Rattle.ink.proofs.Colours.{colour-next}
 use Rattle.film.specs.Picture.{commandsRead}
-
--- a product of two numbers of 16 bits
-pub product-fits : {m n : ℕ} → m < 65536 → n < 65536 → m * n < 2 ^ 64
-product-fits {m} {n} h l = let p : m * n ≤ 65535 * 65535 = mul-le-mul (le-of-suc-le-suc h) (le-of-suc-le-suc l) in omega arith
 
 -- ---- the first i bytes are 0
 

@@ -8,7 +8,7 @@ use lib.ListN.{length, take, drop, length-append, take-append-drop}
 use Rattle.row.specs.Counts.{joined}
 use Rattle.row.proofs.Dots.{length-rowOf}
 use Rattle.commands.specs.Commands.{Command}
-use Rattle.sheet.specs.Herald.{rowLength}
+use Rattle.herald.specs.Herald.{rowLength}
 use Rattle.imaging.specs.Pictures.{rowBytes, numbered, rowsOf}
 
 pub length-numbered : (i n : ℕ) (f : ℕ → List ℕ) → length (numbered i n f) ≡ n

@@ -10,7 +10,7 @@ use lib.Dec.{leb, eqb}
 use lib.ListN.{length, take, drop}
 use Rattle.words.specs.Words.{words}
 use Rattle.commands.specs.Band.{Reading, read, refusedAt, readBand}
-use Rattle.sheet.specs.Herald.{heraldOf, pageCount, bandCount}
+use Rattle.herald.specs.Herald.{heraldOf, pageCount, bandCount}
 use Rattle.sheet.specs.Layout.{Layout, end, bad, band, bandsThen, pagesFrom, layoutOf, bandIndex, Reached, found, stopped, nowhere, reach}
 use Rattle.sheet.specs.Check.{pages, refused, bandVerdict, checkAfter, checkLayout}
 use Rattle.film.specs.Picture.{wordsReached, commandsRead}

@@ -8,7 +8,7 @@ use lib.Dec.{eqb}
 use lib.ListN.{length, take, drop}
 use Rattle.row.specs.Counts.{onesOf, joined, total}
 use Rattle.words.specs.Words.{words}
-use Rattle.sheet.specs.Herald.{heraldOf, pageCount, bandCount, bandStart, bandRows, bandBytes, rowLength}
+use Rattle.herald.specs.Herald.{heraldOf, pageCount, bandCount, bandStart, bandRows, bandBytes, rowLength}
 use Rattle.sheet.specs.Layout.{layoutOf, bandIndex, found, reach}
 use Rattle.sheet.specs.Check.{checkAnswer, pages}
 use Rattle.film.specs.Picture.{picture}

@@ -14,9 +14,9 @@ use Rattle.words.specs.Arrays.{arrayExtent, samplesIn, tileIn}
 use Rattle.words.specs.Groups.{linesExtent, groupExtent, linesIn, runsIn}
 use Rattle.commands.specs.Commands.{command, priorityFrom, tileFrom, rectangleFrom, trapezoidFrom, runsFrom, loadRunsFrom, samplesFrom, loadSamplesFrom}
 use Rattle.commands.specs.Band.{Reading, read, refusedAt, readFrom, readBand}
-use Rattle.sheet.specs.Herald.{Herald, heraldOf, pageCount, bandCount, bandStart, bandRows, bandBytes}
-use Rattle.sheet.specs.Refusals.{Line, refuse, Verdict, fine, first, lengthTable, passwordTable, sizeTable, loadTable, pageTable, frontTable}
-use Rattle.sheet.specs.Refusals as refusals
+use Rattle.herald.specs.Herald.{Herald, heraldOf, pageCount, bandCount, bandStart, bandRows, bandBytes}
+use Rattle.herald.specs.Refusals.{Line, refuse, Verdict, fine, first, lengthTable, passwordTable, sizeTable, loadTable, pageTable, frontTable}
+use Rattle.herald.specs.Refusals as refusals
 use Rattle.sheet.specs.Layout.{bandsThen, pagesFrom, layoutOf, bandIndex, Reached, found, stopped, nowhere, reach}
 use Rattle.imaging.specs.Masks.{masked, sample, inRuns, within}
 use Rattle.imaging.specs.Colours.{painted, tileDot, tileStart}

@@ -1,6 +1,6 @@
 -- Films. The files, in reading order: Examples (sheets for the worked cases), Picture (a page's whole picture), Draw (what a draw answers and what
--- its buffer holds then), Promise (what a draw promises), Found (what its walk answers), Demand3 (the demand, one statement) and Witnesses (its premises are met). How to read
--- them is said in crates/row/specs/Lib.antt and crates/words/specs/Lib.antt.
+-- its buffer holds then), Promise (what a draw promises), Functions (what its private functions need and answer), Demand3 (the demand, one
+-- statement) and Witnesses (its premises are met). How to read them is said in crates/row/specs/Lib.antt and crates/words/specs/Lib.antt.
 --
 -- How to read a statement. A `Type 0` is a statement or a kind of thing. `(x : A) → B` says B of every x of A, `{x : A} → B` says the same where x
 -- need not be written, and `A → B` between statements says that B holds where A does. `m ≤ n` and `m < n` are statements about numbers, `¬ A`
@@ -11,6 +11,6 @@ pub mod Examples
 pub mod Picture
 pub mod Draw
 pub mod Promise
-pub mod Found
+pub mod Functions
 pub mod Demand3
 pub mod Witnesses

@@ -9,7 +9,7 @@ use Rattle.words.specs.Arrays.{arrayExtent, samplesIn, tileIn}
 use Rattle.words.specs.Groups.{linesExtent, groupExtent, linesIn, runsIn}
 use Rattle.commands.specs.Commands.{Command, command, priorityFrom, tileFrom, rectangleFrom, trapezoidFrom, runsFrom, loadRunsFrom, samplesFrom, loadSamplesFrom}
 use Rattle.commands.specs.Band.{Reading, read, refusedAt, readFrom, readBand}
-use Rattle.sheet.specs.Herald.{heraldOf, bandCount}
+use Rattle.herald.specs.Herald.{heraldOf, bandCount}
 use Rattle.sheet.specs.Layout.{layoutOf, bandsThen, pagesFrom, bandIndex, Reached, found, stopped, nowhere, reach}
 use Rattle.imaging.specs.Masks.{masked, sample, inRuns, within}
 use Rattle.imaging.specs.Colours.{painted, tileDot, tileStart}

@@ -1,4 +1,4 @@
--- What a draw promises, as it is to stand in draw's `ensures`: the answer and the buffer, for every sheet, load, page, band and buffer.
+-- What a draw promises, as it stands in draw's `ensures`: the answer and the buffer, for every sheet, load, page, band and buffer.
 use mathlib.Core.Path.{_≡_}
 use mathlib.Core.List.{List}
 use Prim.Native.Nat.{ℕ}

@@ -10,8 +10,8 @@ use Rattle.words.specs.Arrays.{arrayExtent, samplesIn, tileIn}
 use Rattle.words.specs.Groups.{linesExtent, groupExtent, linesIn, runsIn}
 use Rattle.commands.specs.Commands.{command, priorityFrom, tileFrom, rectangleFrom, trapezoidFrom, runsFrom, loadRunsFrom, samplesFrom, loadSamplesFrom}
 use Rattle.commands.specs.Band.{readFrom, readBand}
-use Rattle.sheet.specs.Herald.{bandCount}
-use Rattle.sheet.specs.Refusals.{first, lengthTable, passwordTable, sizeTable, loadTable, pageTable, frontTable, front}
+use Rattle.herald.specs.Herald.{bandCount}
+use Rattle.herald.specs.Refusals.{first, lengthTable, passwordTable, sizeTable, loadTable, pageTable, frontTable, front}
 use Rattle.sheet.specs.Layout.{bandsThen, pagesFrom, reach}
 use Rattle.sheet.specs.Check.{checkAnswer, checkLayout, pages}
 use Rattle.imaging.specs.Masks.{masked, sample, inRuns, within}

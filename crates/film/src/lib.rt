@@ -2,35 +2,32 @@
 ghost use mathlib.Core.Path.{_≡_};
 ghost use mathlib.Core.Bool.{false};
 ghost use mathlib.Core.List.{_++_};
-ghost use Prim.Native.Nat.{ℕ, _*_, _<_, _≤_};
+ghost use Prim.Native.Nat.{_*_, _<_, _≤_};
 ghost use lib.ListN.{length, take, drop};
 ghost use Rattle.row.specs.Dots.{rowOf};
 ghost use Rattle.row.specs.Counts.{onesOf, joined};
 ghost use Rattle.words.specs.Words.{words};
-ghost use Rattle.words.specs.Parts.{partOf};
-ghost use Rattle.words.specs.Load.{loadWords};
-ghost use Rattle.commands.specs.Band.{readBand, read};
-ghost use Rattle.sheet.specs.Herald.{heraldOf, bandCount, bandStart, bandRows, rowLength};
-ghost use Rattle.sheet.specs.Refusals.{fine, front};
+ghost use Rattle.herald.specs.Herald.{heraldOf, bandCount, bandStart, bandRows, rowLength};
 ghost use Rattle.sheet.specs.Layout.{layoutOf, reach};
+ghost use Rattle.sheet.specs.Check.{reading};
 ghost use Rattle.imaging.specs.Pictures.{rowsOf};
 ghost use Rattle.film.specs.Picture.{commandsRead};
 ghost use Rattle.film.specs.Draw.{drawRows, bufferAfter};
 ghost use Rattle.film.specs.Promise.{told, due, Promised};
-ghost use Rattle.film.specs.Found.{reached, InSheet};
+ghost use Rattle.film.specs.Functions.{reached, InSheet, Fits, AllRead};
 use commands::Read;
 use commands::read_command;
+use herald::Tested;
+use herald::bands_per_page;
+use herald::row_bytes;
+use herald::test_front;
 use ink::Band;
 use ink::colour_after;
 use ink::ink_command;
 use paint::Colour;
 use row::ones;
-use sheet::Front;
-use sheet::bands_per_page;
 use sheet::priority_after;
-use sheet::row_bytes;
 use sheet::test_band;
-use sheet::test_front;
 use words::word;
 
 // No such page or band; a buffer under the band's own rows.
@@ -52,7 +49,7 @@ enum Found {
 }
 
 // The walk over pages and bands to band number `index` among all bands of the sheet. At place p `bands` bands of a page are to come, then
-// `pages` pages; `left` of those bands come before the one that is sought.
+// `pages` pages; `left` bands come before the one that is sought.
 fn find_band(sheet: &[u8], index: usize) -> Found
     requires { ⌜ bandCount (heraldOf (words (now sheet))) ≤ 65535 ⌝ }
     ensures { λ r. ⌜ reached (now (sheet .entry)) r ≡ reach index (layoutOf (words (now (sheet .entry)))) ⌝ }
@@ -93,20 +90,19 @@ fn find_band(sheet: &[u8], index: usize) -> Found
 }
 
 // The lines of band `band` of a page.
-fn band_lines<'a>(sheet: &'a [u8], load: &'a [u8], band: usize) -> Band
-    requires { ⌜ (front (now sheet) (now load) ≡ fine) × (band < bandCount (heraldOf (words (now sheet)))) ⌝ }
+fn band_lines(sheet: &[u8], band: usize) -> Band
+    requires { ⌜ (0 < heraldOf (words (now sheet)) .bandSSize) × (band < bandCount (heraldOf (words (now sheet)))) ⌝ }
     ensures { λ r. ⌜ (r .first ≡ bandStart (heraldOf (words (now (sheet .entry)))) band) × (r .rows ≡ bandRows (heraldOf (words (now (sheet .entry)))) band) × (r .width ≡ heraldOf (words (now (sheet .entry))) .imageFSize) ⌝ }
 {
     let lines = word(sheet, 5) as usize;
     let most = word(sheet, 7) as usize;
-    let first = most * band;
-    let left = lines - first;
-    let rows = if most < left { most } else { left };
-    Band {
-        first: first as u16,
-        rows: rows as u16,
-        width: word(sheet, 6),
-    }
+    let above = most * band;
+    let left = lines - above;
+    let own = if most < left { most } else { left };
+    let first = above as u16;
+    let rows = own as u16;
+    let width = word(sheet, 6);
+    Band { first, rows, width }
 }
 
 // Makes the first n bytes 0.
@@ -130,11 +126,10 @@ fn ink_band<'a>(
     from: usize,
     end: usize,
 )
-    requires { ⌜ (from ≤ end) × (end ≤ length (words (now sheet))) × (0 < band .width) × ((band .rows) * rowLength (band .width) ≤ length (now buf)) × (readBand (loadWords (now load)) (words (partOf (now sheet) from end)) ≡ read (commandsRead (readBand (loadWords (now load)) (words (partOf (now sheet) from end))))) ⌝ }
-    ensures { λ _. ⌜ now (buf .exit) ≡ joined (rowsOf (band .width) (band .first) (band .rows) (commandsRead (readBand (loadWords (now (load .entry))) (words (partOf (now (sheet .entry)) from end))))) ++ drop ((band .rows) * rowLength (band .width)) (now (buf .entry)) ⌝ }
+    requires { ⌜ Fits (now sheet) (now buf) from end (band .width) (band .rows) × AllRead (reading (now sheet) (now load) from end) ⌝ }
+    ensures { λ _. ⌜ now (buf .exit) ≡ joined (rowsOf (band .width) (band .first) (band .rows) (commandsRead (reading (now (sheet .entry)) (now (load .entry)) from end))) ++ drop ((band .rows) * rowLength (band .width)) (now (buf .entry)) ⌝ }
 {
-    let width = band.width as usize;
-    clear(buf, band.rows as usize * (2 * ((width + 15) / 16)));
+    clear(buf, band.rows as usize * row_bytes(band.width));
     let mut colour = Colour::Solid(true);
     let mut least: u32 = 0;
     let mut p = from;
@@ -175,11 +170,11 @@ fn draw_found<'a>(
     from: usize,
     end: usize,
 ) -> Drawn
-    requires { ⌜ (from ≤ end) × (end ≤ length (words (now sheet))) × (0 < band .width) × ((band .rows) * rowLength (band .width) ≤ length (now buffer)) × ((band .rows) * rowLength (band .width) ≤ 65536) ⌝ }
-    ensures { λ r. ⌜ told r ≡ due (drawRows (band .width) (band .first) (band .rows) from (readBand (loadWords (now (load .entry))) (words (partOf (now (sheet .entry)) from end)))) ⌝ }
-    ensures { λ _. ⌜ now (buffer .exit) ≡ bufferAfter (drawRows (band .width) (band .first) (band .rows) from (readBand (loadWords (now (load .entry))) (words (partOf (now (sheet .entry)) from end)))) (now (buffer .entry)) ⌝ }
+    requires { ⌜ Fits (now sheet) (now buffer) from end (band .width) (band .rows) × ((band .rows) * rowLength (band .width) ≤ 65536) ⌝ }
+    ensures { λ r. ⌜ told r ≡ due (drawRows (band .width) (band .first) (band .rows) from (reading (now (sheet .entry)) (now (load .entry)) from end)) ⌝ }
+    ensures { λ _. ⌜ now (buffer .exit) ≡ bufferAfter (drawRows (band .width) (band .first) (band .rows) from (reading (now (sheet .entry)) (now (load .entry)) from end)) (now (buffer .entry)) ⌝ }
 {
-    if let Front::Refused(n, p) = test_band(sheet, load, from, end) {
+    if let Tested::Refused(n, p) = test_band(sheet, load, from, end) {
         return Drawn::Refused(n, p);
     }
     ink_band(buffer, band, sheet, load, from, end);
@@ -198,7 +193,7 @@ pub fn draw<'a>(
 ) -> Drawn
     ensures { λ r. ⌜ Promised (now (sheet .entry)) (now (load .entry)) page band (now (buffer .entry)) r (now (buffer .exit)) ⌝ }
 {
-    if let Front::Refused(n, p) = test_front(sheet, load) {
+    if let Tested::Refused(n, p) = test_front(sheet, load) {
         return Drawn::Refused(n, p);
     }
     let per_page = bands_per_page(sheet);
@@ -208,7 +203,7 @@ pub fn draw<'a>(
     if band >= per_page {
         return Drawn::Refused(NO_BAND, 0);
     }
-    let lines = band_lines(sheet, load, band);
+    let lines = band_lines(sheet, band);
     if buffer.len() < lines.rows as usize * row_bytes(lines.width) {
         return Drawn::Refused(SHORT_BUFFER, 0);
     }

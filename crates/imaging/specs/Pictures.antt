@@ -8,7 +8,7 @@ use Rattle.row.specs.Dots.{byteOf, rowOf}
 use Rattle.words.specs.Arrays.{samplesIn, tileIn}
 use Rattle.words.specs.Groups.{linesIn, runsIn}
 use Rattle.commands.specs.Commands.{rectangle, trapezoid, runs, samples, Command, priority, ink, clear, opaque, transparent, paint}
-use Rattle.sheet.specs.Herald.{rowLength}
+use Rattle.herald.specs.Herald.{rowLength}
 use Rattle.imaging.specs.Masks.{Film, within, inRuns, sample, masked}
 use Rattle.imaging.specs.Colours.{Colour, solid, opaqueTile, transparentTile, tileStart, tileDot, painted}
 

@@ -12,7 +12,7 @@ use Rattle.row.specs.Dots.{dotAt, rowOf}
 use Rattle.row.proofs.Dots.{Bytes}
 use Rattle.commands.specs.Answers.{withWords}
 use Rattle.commands.specs.declared.Command as code
-use Rattle.sheet.specs.Herald.{rowLength}
+use Rattle.herald.specs.Herald.{rowLength}
 use Rattle.imaging.specs.Masks.{Film}
 use Rattle.imaging.specs.Colours.{Colour}
 use Rattle.paint.specs.Rows.{paintedLine}

@@ -11,7 +11,7 @@ use lib.ListN.{length, take, drop, length-drop}
 use lib.Seq.{length-take-le}
 use Rattle.row.specs.Dots.{dotAt, rowOf}
 use Rattle.row.proofs.Dots.{Bytes, bytes-take, bytes-drop, dot-drop, dot-take, length-rowOf, bytes-rowOf, row-is, rowOf-dots, rowOf-same, rowOf-add, rewritten}
-use Rattle.sheet.specs.Herald.{rowLength}
+use Rattle.herald.specs.Herald.{rowLength}
 use Rattle.imaging.specs.Masks.{Film}
 use Rattle.imaging.specs.Colours.{Colour, painted}
 use Rattle.paint.specs.Rows.{paintedLine}

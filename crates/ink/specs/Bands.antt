@@ -8,7 +8,7 @@ use lib.ListN.{length}
 use Rattle.row.specs.Dots.{dotIn, dotAt, byteOf, rowOf}
 use Rattle.words.specs.Arrays.{samplesIn, tileIn}
 use Rattle.commands.specs.Commands.{Command, ink, paint, rectangle}
-use Rattle.sheet.specs.Herald.{rowLength}
+use Rattle.herald.specs.Herald.{rowLength}
 use Rattle.imaging.specs.Masks.{Film, within, sample, masked}
 use Rattle.imaging.specs.Colours.{Colour, solid, opaqueTile, tileStart, tileDot, painted}
 use Rattle.lines.specs.Lines.{maskOf}

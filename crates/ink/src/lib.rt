@@ -7,7 +7,7 @@ ghost use lib.ListN.{length};
 ghost use Rattle.words.specs.Words.{words};
 ghost use Rattle.commands.specs.Commands.{runs};
 ghost use Rattle.commands.specs.Answers.{withWords, commandOf};
-ghost use Rattle.sheet.specs.Herald.{rowLength};
+ghost use Rattle.herald.specs.Herald.{rowLength};
 ghost use Rattle.imaging.specs.Masks.{within, masked};
 ghost use Rattle.paint.specs.Colours.{colourWith};
 ghost use Rattle.lines.specs.Lines.{maskOf, hasLine};

@@ -8,8 +8,8 @@ use lib.ListN.{length}
 use Rattle.words.specs.Words.{words, bytesOf}
 use Rattle.words.specs.Load.{loadCount, loadWords}
 use Rattle.commands.specs.Band.{readFrom, readBand}
-use Rattle.sheet.specs.Herald.{bandCount}
-use Rattle.sheet.specs.Refusals.{first, lengthTable, passwordTable, sizeTable, loadTable, pageTable, frontTable, front}
+use Rattle.herald.specs.Herald.{bandCount}
+use Rattle.herald.specs.Refusals.{first, lengthTable, passwordTable, sizeTable, loadTable, pageTable, frontTable, front}
 use Rattle.sheet.specs.Layout.{bandsThen, pagesFrom}
 use Rattle.sheet.specs.Check.{CheckAnswer, pages, refused, checkLayout, checkAnswer}
 

@@ -4,10 +4,10 @@ ghost use Rattle.sheet.specs.Answers.{answered};
 ghost use Rattle.lister.specs.Listing.{listAnswer};
 use film::Drawn;
 use film::draw;
+use herald::bands_per_page;
+use herald::row_bytes;
 use sheet::Checked;
-use sheet::bands_per_page;
 use sheet::check;
-use sheet::row_bytes;
 use text::band_line;
 use text::pages_line;
 use text::refusal_line;
@@ -30,7 +30,7 @@ fn print_refusal(number: u8, place: usize) {
     print_start(&line, n);
 }
 
-// A row has at most 4,096 bytes.
+// Prints a row of at most 4,096 bytes; no sheet that passes has longer ones.
 fn print_row(row: &[u8]) {
     let mut line = [0u8; 8193];
     let n = row_line(row, &mut line);
@@ -71,7 +71,7 @@ fn print_page<'a>(sheet: &'a [u8], load: &'a [u8], page: usize, bands: usize, bu
     }
 }
 
-// A band's rows take at most 65,536 bytes.
+// Prints the pages one after another. A band's rows take at most 65,536 bytes.
 fn print_pages<'a>(sheet: &'a [u8], load: &'a [u8], pages: usize) {
     let bands = bands_per_page(sheet);
     let mut line = [0u8; 128];
@@ -85,7 +85,8 @@ fn print_pages<'a>(sheet: &'a [u8], load: &'a [u8], pages: usize) {
     }
 }
 
-// Prints the listing of a sheet of at most 65,536 bytes with an empty load, or the line of its refusal, and answers what the check answers.
+// Prints the listing of a sheet of at most 65,536 bytes with an empty load, or the line of its refusal, and answers what the check answers; a longer
+// input is refused with 1 at 0.
 pub fn list(input: &[u8]) -> Checked
     ensures { λ r. ⌜ answered r ≡ listAnswer (now (input .entry)) ⌝ }
 {

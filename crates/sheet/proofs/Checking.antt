@@ -16,11 +16,11 @@ use Rattle.commands.specs.Answers as commands
 use Rattle.commands.specs.declared.Command as code-command
 use Rattle.commands.specs.declared.Read as code
 use Rattle.commands.specs.declared.Read.the-variants.{Whole, Refused}
-use Rattle.sheet.specs.Herald.{heraldOf, pageCount, bandCount}
-use Rattle.sheet.specs.Refusals.{Verdict, fine, front}
-use Rattle.sheet.specs.Refusals as refusals
+use Rattle.herald.specs.Herald.{heraldOf, pageCount, bandCount}
+use Rattle.herald.specs.Refusals.{Verdict, fine, front}
+use Rattle.herald.specs.Refusals as refusals
 use Rattle.sheet.specs.Layout.{Layout, end, bad, layoutOf}
-use Rattle.sheet.specs.Check.{CheckAnswer, refused, bandVerdict, checkLayout, checkAfter, checkAnswer}
+use Rattle.sheet.specs.Check.{CheckAnswer, refused, reading, bandVerdict, checkLayout, checkAfter, checkAnswer}
 use Rattle.sheet.specs.Check as check
 use Rattle.sheet.proofs.Walk.{layoutFrom, walk-start, walk-band, walk-end}
 use Rattle.sheet.proofs.Band.{no-more, next-command, next-refusal}
@@ -34,7 +34,7 @@ pass-command b c (refusedAt n i) = refl
 
 -- what is said of the band
 abbrev pub band-says : (sheet load : List ℕ) (b e : ℕ) → Verdict
-band-says sheet load b e = bandVerdict b (readBand (loadWords load) (words (partOf sheet b e)))
+band-says sheet load b e = bandVerdict b (reading sheet load b e)
 
 -- a band that the sheet has not is fine
 pub band-none : (sheet load : List ℕ) (b e : ℕ) → length (words sheet) < e → fine ≡ band-says sheet load b e

@@ -2,7 +2,6 @@
 use mathlib.Core.Path.{_≡_, refl, sym, ap₂, _∙_}
 use mathlib.Core.List.{List, _∷_}
 use Prim.Native.Nat.{ℕ, zero, suc, _+_, _-_, _<_, _≤_}
-use native.Mathlib.Nat.{div-le-self}
 use native.Mathlib.Omega.{arith}
 use borrow.Author.Tests.{le-leb, lt-leb, eq-eqb, ne-eqb}
 use lib.ListN.{length, drop, length-drop, drop-of-length-le}
@@ -10,13 +9,8 @@ use lib.Seq.{drop-cons, drop-drop}
 use Rattle.words.specs.Words.{words, at}
 use Rattle.words.specs.Parts.{partOf}
 use Rattle.words.proofs.Parts.{part-taken}
-use Rattle.sheet.specs.Herald.{Herald, heraldOf, pageCount, bandCount}
+use Rattle.herald.specs.Herald.{heraldOf, pageCount, bandCount}
 use Rattle.sheet.specs.Layout.{Layout, end, bad, band, bandsThen, pagesFrom, layoutOf}
-
--- a page has no more bands than these
-pub few-bands : (h : Herald) → bandCount h ≤ h .imageSSize + (h .bandSSize - 1)
-unfolding bandCount
-few-bands h = div-le-self (h .imageSSize + (h .bandSSize - 1)) (h .bandSSize)
 
 -- what is to come at place p of the sheet: `bands` bands, then `pages` pages of m bands each
 unfoldable pub layoutFrom : List ℕ → (m pages bands p : ℕ) → Layout

@@ -3,20 +3,25 @@ use mathlib.Core.Path.{_≡_}
 use mathlib.Core.List.{List, [], _∷_, _++_}
 use Prim.Native.Nat.{ℕ, _+_}
 use Rattle.words.specs.Words.{words, bytesOf}
+use Rattle.words.specs.Parts.{partOf}
 use Rattle.words.specs.Load.{loadCount, loadWords}
 use Rattle.words.specs.Arrays.{arrayExtent}
 use Rattle.words.specs.Groups.{linesExtent, groupExtent}
 use Rattle.commands.specs.Commands.{command, priorityFrom, tileFrom, rectangleFrom, trapezoidFrom, runsFrom, loadRunsFrom, samplesFrom, loadSamplesFrom}
 use Rattle.commands.specs.Band.{Reading, read, refusedAt, readFrom, readBand}
-use Rattle.sheet.specs.Herald.{pageCount, bandCount}
-use Rattle.sheet.specs.Refusals.{Verdict, fine, first, lengthTable, passwordTable, sizeTable, loadTable, pageTable, frontTable, front}
-use Rattle.sheet.specs.Refusals as refusals
+use Rattle.herald.specs.Herald.{pageCount, bandCount}
+use Rattle.herald.specs.Refusals.{Verdict, fine, first, lengthTable, passwordTable, sizeTable, loadTable, pageTable, frontTable, front}
+use Rattle.herald.specs.Refusals as refusals
 use Rattle.sheet.specs.Layout.{Layout, end, bad, band, bandsThen, pagesFrom, layoutOf}
 
 -- the number of pages, or a refusal
 pub data CheckAnswer : Type 0 where
   pages : (count : ℕ) → CheckAnswer
   refused : (number place : ℕ) → CheckAnswer
+
+-- what is read of the commands from place p of the sheet up to, not including, place e
+abbrev pub reading : (sheet load : List ℕ) (p e : ℕ) → Reading
+reading sheet load p e = readBand (loadWords load) (words (partOf sheet p e))
 
 -- of a band's commands, whose first has place p
 abbrev pub bandVerdict : ℕ → Reading → Verdict

@@ -6,7 +6,7 @@ use mathlib.Core.List.{List, [], _∷_}
 use Prim.Native.Nat.{ℕ, zero, suc, _+_, _*_}
 use lib.Dec.{leb, eqb}
 use lib.ListN.{length, take, drop}
-use Rattle.sheet.specs.Herald.{heraldOf, pageCount, bandCount}
+use Rattle.herald.specs.Herald.{heraldOf, pageCount, bandCount}
 
 -- the bands in the sheet's order, up to the end of the last page or to the first count that is wrong or missing
 pub data Layout : Type 0 where

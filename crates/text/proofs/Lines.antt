@@ -7,7 +7,7 @@ use native.Mathlib.Nat.{pow-suc}
 use native.Mathlib.Omega.{arith}
 use lib.ListN.{length, getD, drop, set, length-append, length-set}
 use lib.Seq.{drop-cons, drop-length, getD-set-same, drop-set-lt, getD-at}
-use Rattle.text.specs.Numbers.{capital, hexOf, decimalIn, decimal}
+use Rattle.text.specs.Numbers.{hexDigit, hexOf, decimalIn, decimal}
 use Rattle.text.specs.Lines.{pageLabel, bandLabel, rowsLabel, dotsLabel, newline, bandLine, rowLine}
 use Rattle.text.specs.Buffers.{written, count}
 use Rattle.text.proofs.Numbers.{decimal-last, decimal-digit, hex-length, hex-high, hex-low}
@@ -177,7 +177,7 @@ rowed-first row out h =
 
 -- the two digits of a byte
 pub rowed-next : {row out₀ out : List ℕ} {i u v : ℕ} → Rowed row out₀ i out → i < length row
-    → u ≡ capital (getD row i 0 / 16) → v ≡ capital (getD row i 0 % 16) → Rowed row out₀ (i + 1) (set (set out (2 * i) u) (2 * i + 1) v)
+    → u ≡ hexDigit (getD row i 0 / 16) → v ≡ hexDigit (getD row i 0 % 16) → Rowed row out₀ (i + 1) (set (set out (2 * i) u) (2 * i + 1) v)
 unfolding rowLine
 rowed-next {row} {out₀} {out} {i} {u} {v} r h e f =
     let l = row-length row in

@@ -5,17 +5,17 @@ use Prim.Native.Nat.{ℕ, zero, suc, _+_, _*_, _/_, _%_, _<_, _≤_}
 use native.Mathlib.Omega.{arith}
 use borrow.Author.Tests.{lt-ltb, le-ltb}
 use lib.ListN.{length, getD}
-use Rattle.text.specs.Numbers.{capital, hexOf, decimalIn, decimal}
+use Rattle.text.specs.Numbers.{hexDigit, hexOf, decimalIn}
 
 -- ---- hexadecimal
 
-pub capital-low : {d : ℕ} → d < 10 → 48 + d ≡ capital d
-unfolding capital
-capital-low h = rw (lt-ltb _ _ h) refl
+pub hex-digit-low : {d : ℕ} → d < 10 → 48 + d ≡ hexDigit d
+unfolding hexDigit
+hex-digit-low h = rw (lt-ltb _ _ h) refl
 
-pub capital-high : {d : ℕ} → 10 ≤ d → 55 + d ≡ capital d
-unfolding capital
-capital-high h = rw (le-ltb _ _ h) refl
+pub hex-digit-high : {d : ℕ} → 10 ≤ d → 55 + d ≡ hexDigit d
+unfolding hexDigit
+hex-digit-high h = rw (le-ltb _ _ h) refl
 
 pub hex-length : (row : List ℕ) → length (hexOf row) ≡ 2 * length row
 unfolding hexOf
@@ -23,7 +23,7 @@ hex-length [] = refl
 hex-length (b ∷ bs) = let e = hex-length bs in omega arith
 
 -- the two digits of byte i, with the text s after all of them
-pub hex-high : (row s : List ℕ) (i : ℕ) → i < length row → getD (hexOf row ++ s) (2 * i) 0 ≡ capital (getD row i 0 / 16)
+pub hex-high : (row s : List ℕ) (i : ℕ) → i < length row → getD (hexOf row ++ s) (2 * i) 0 ≡ hexDigit (getD row i 0 / 16)
 unfolding hexOf
 hex-high [] s i h = absurd (omega arith)
 hex-high (b ∷ bs) s zero h = refl
@@ -31,7 +31,7 @@ hex-high (b ∷ bs) s (suc i) h =
     let e : 2 * suc i ≡ suc (suc (2 * i)) = omega arith in
     ap (λ (j : ℕ). getD (hexOf (b ∷ bs) ++ s) j 0) e ∙ hex-high bs s i (omega arith)
 
-pub hex-low : (row s : List ℕ) (i : ℕ) → i < length row → getD (hexOf row ++ s) (2 * i + 1) 0 ≡ capital (getD row i 0 % 16)
+pub hex-low : (row s : List ℕ) (i : ℕ) → i < length row → getD (hexOf row ++ s) (2 * i + 1) 0 ≡ hexDigit (getD row i 0 % 16)
 unfolding hexOf
 hex-low [] s i h = absurd (omega arith)
 hex-low (b ∷ bs) s zero h = refl

@@ -2,7 +2,7 @@
 use mathlib.Core.Path.{_≡_}
 use mathlib.Core.List.{List, [], _∷_, _++_}
 use Prim.Native.Nat.{ℕ}
-use Rattle.text.specs.Numbers.{capital, hexOf, decimalIn, decimal}
+use Rattle.text.specs.Numbers.{hexDigit, hexOf, decimalIn, decimal}
 
 -- ---- the labels, each with its blanks
 
@@ -81,5 +81,5 @@ pub record LineCases : Type 0 where
   pub refusal : refusalLine 7 14 ≡ 114 ∷ 101 ∷ 102 ∷ 117 ∷ 115 ∷ 101 ∷ 100 ∷ 32 ∷ 55 ∷ 32 ∷ 97 ∷ 116 ∷ 32 ∷ 49 ∷ 52 ∷ 10 ∷ []
 
 pub line-cases : LineCases
-unfolding capital hexOf decimalIn decimal pagesLabel bandsLabel pageLabel bandLabel rowsLabel dotsLabel refusedLabel atLabel pagesLine bandLine rowLine refusalLine
+unfolding hexDigit hexOf decimalIn decimal pagesLabel bandsLabel pageLabel bandLabel rowsLabel dotsLabel refusedLabel atLabel pagesLine bandLine rowLine refusalLine
 line-cases = search

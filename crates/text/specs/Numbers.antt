@@ -6,13 +6,13 @@ use Prim.Native.Nat.{ℕ, zero, suc, _+_, _/_, _%_}
 use lib.Dec.{ltb}
 
 -- a hexadecimal digit, in capitals
-unfoldable pub capital : ℕ → ℕ
-capital d = cond (ltb d 10) (48 + d) (55 + d)
+unfoldable pub hexDigit : ℕ → ℕ
+hexDigit d = cond (ltb d 10) (48 + d) (55 + d)
 
 -- bytes in hexadecimal: two digits a byte, the high one first
 unfoldable pub hexOf : List ℕ → List ℕ
 hexOf [] = []
-hexOf (b ∷ bs) = capital (b / 16) ∷ capital (b % 16) ∷ hexOf bs
+hexOf (b ∷ bs) = hexDigit (b / 16) ∷ hexDigit (b % 16) ∷ hexOf bs
 
 -- n in decimal, without zeros in front; of a number with more than k + 1 digits the last k + 1
 unfoldable pub decimalIn : (k n : ℕ) → List ℕ
@@ -26,10 +26,10 @@ decimal n = decimalIn 19 n
 -- ---- worked cases
 
 pub record NumberCases : Type 0 where
-  pub digit-0 : capital 0 ≡ 48
-  pub digit-9 : capital 9 ≡ 57
-  pub digit-A : capital 10 ≡ 65
-  pub digit-F : capital 15 ≡ 70
+  pub digit-0 : hexDigit 0 ≡ 48
+  pub digit-9 : hexDigit 9 ≡ 57
+  pub digit-A : hexDigit 10 ≡ 65
+  pub digit-F : hexDigit 15 ≡ 70
   pub bytes : hexOf (0x0A ∷ 0xFF ∷ 0x90 ∷ []) ≡ 48 ∷ 65 ∷ 70 ∷ 70 ∷ 57 ∷ 48 ∷ []
   pub no-bytes : hexOf [] ≡ []
   pub nought : decimal 0 ≡ 48 ∷ []
@@ -45,5 +45,5 @@ pub record NumberCases : Type 0 where
       ≡ 50 ∷ 48 ∷ 48 ∷ 48 ∷ 48 ∷ 48 ∷ 48 ∷ 48 ∷ 48 ∷ 48 ∷ 48 ∷ 48 ∷ 48 ∷ 48 ∷ 48 ∷ 48 ∷ 48 ∷ 48 ∷ 51 ∷ 52 ∷ []
 
 pub number-cases : NumberCases
-unfolding capital hexOf decimalIn decimal
+unfolding hexDigit hexOf decimalIn decimal
 number-cases = search

@@ -4,7 +4,7 @@ ghost use mathlib.Core.Path.{_≡_};
 ghost use mathlib.Core.List.{_++_};
 ghost use Prim.Native.Nat.{_+_, _≤_, _<_};
 ghost use lib.ListN.{length, drop};
-ghost use Rattle.text.specs.Numbers.{capital, decimal};
+ghost use Rattle.text.specs.Numbers.{hexDigit, decimal};
 ghost use Rattle.text.specs.Lines.{pagesLine, bandLine, rowLine, refusalLine};
 ghost use Rattle.text.specs.Buffers.{written, count};
 
@@ -118,7 +118,7 @@ pub fn refusal_line(number: u8, place: usize, out: &mut [u8]) -> usize
 // The ASCII code of a hexadecimal digit, in capitals.
 fn hex_digit(d: u8) -> u8
     requires { ⌜ d < 16 ⌝ }
-    ensures { λ r. ⌜ r ≡ capital d ⌝ }
+    ensures { λ r. ⌜ r ≡ hexDigit d ⌝ }
 {
     if d < 10 { 48 + d } else { 55 + d }
 }

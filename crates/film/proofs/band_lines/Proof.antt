@@ -1,8 +1,8 @@
 -- `film::band_lines` meets its contract: the band begins on the page, so no difference or cast loses anything. Assumes nothing.
 use mathlib.Core.Logic.{⊎-elim}
-use Prim.Native.Nat.{_*_, _<_, _≤_}
+use Prim.Native.Nat.{_*_, _<_}
 use native.Mathlib.Omega.{arith}
-use Rattle.film.proofs.Drawing.{first-line, lines-high, start-is, rows-are}
+use Rattle.film.proofs.Drawing.{first-line, start-is, rows-are}
 use Rattle.film.proofs.band_lines.Statement.{statement}
 use Rattle.film.proofs.band_lines.Tie as tie
 
@@ -18,27 +18,21 @@ word-requires-2 c κs = tt
 cast-most : tie.Need-cast-most
 cast-most c = omega arith
 
--- the band's first line is on the page, and the page has few lines
-on-page : (c : tie.After-word2)
-    → let s = c .before .before .before .before in
-    (c .word2 .result * s .args .band < c .before .word .result) × (c .before .word .result ≤ 32768)
-on-page c =
-    let s = c .before .before .before .before in
-    let e = c .before .word .ensures in
-    let m = c .word2 .ensures in
-    (first-line _ _ _ _ _ (s .pre .0) (s .pre .1) e m, lines-high _ _ _ _ _ (s .pre .0) (s .pre .1) e m)
+-- the band's first line is on the page
+on-page : (c : tie.After-word2) → c .word2 .result * c .before .before .before .args .band < c .before .word .result
+on-page c = let s = c .before .before .before in first-line _ _ _ _ (s .pre .0) (s .pre .1) (c .before .word .ensures) (c .word2 .ensures)
 
-mul-first : tie.Need-mul-first
-mul-first c = omega (arith, on-page c .0, on-page c .1)
+mul-above : tie.Need-mul-above
+mul-above c = omega (arith, on-page c)
 
 sub-left : tie.Need-sub-left
-sub-left c = omega (arith, on-page c .0)
+sub-left c = omega (arith, on-page c)
 
-cast-t9 : tie.Need-cast-t9
-cast-t9 c = omega (arith, on-page (c .before) .0, on-page (c .before) .1)
+cast-first : tie.Need-cast-first
+cast-first c = omega (arith, on-page (c .before))
 
-cast-t12 : tie.Need-cast-t12
-cast-t12 c = ⊎-elim (λ w. omega (arith, on-page (c .before .before) .1)) (λ w. omega (arith, on-page (c .before .before) .1)) (c .before .if1 .came)
+cast-rows : tie.Need-cast-rows
+cast-rows c = ⊎-elim (λ w. omega arith) (λ w. omega arith) (c .before .if1 .came)
 
 word-requires-3 : tie.Need-word-requires-3
 word-requires-3 c κs = tt
@@ -46,11 +40,11 @@ word-requires-3 c κs = tt
 returns : tie.Need-returns
 returns c =
     let k = c .before .before .before in
-    let s = k .before .before .before .before in
+    let s = k .before .before .before in
     let e = k .before .word .ensures in
     let m = k .word2 .ensures in (
-      start-is _ _ _ _ _ (s .pre .0) (s .pre .1) e m,
-      rows-are _ _ _ _ _ (s .pre .0) (s .pre .1) e m _ (⊎-elim (λ w. omega arith) (λ w. omega arith) (c .before .before .if1 .came)),
+      start-is _ _ _ _ (s .pre .0) (s .pre .1) e m,
+      rows-are _ _ _ _ (s .pre .0) (s .pre .1) e m _ (⊎-elim (λ w. omega arith) (λ w. omega arith) (c .before .before .if1 .came)),
       c .word3 .ensures,
     )
 
@@ -62,9 +56,9 @@ band-lines-spec =
     cast-lines
     word-requires-2
     cast-most
-    mul-first
+    mul-above
     sub-left
-    cast-t9
-    cast-t12
+    cast-first
+    cast-rows
     word-requires-3
     returns)

@@ -1,20 +1,18 @@
 -- `film::draw` meets its promise. Assumes nothing.
 use mathlib.Core.Path.{_≡_, sym, ap, ap₂, subst, _∙_}
-use Prim.Native.Nat.{ℕ, _+_, _*_, _<_, _≤_}
+use Prim.Native.Nat.{ℕ, _+_, _*_, _≤_}
 use native.Mathlib.Nat.{mul-le-mul}
 use native.Mathlib.Omega.{arith}
 use lib.ListN.{length}
-use Rattle.words.specs.Words.{words}
-use Rattle.sheet.specs.Herald.{heraldOf, bandCount, rowLength}
-use Rattle.sheet.specs.Layout.{bandIndex}
-use Rattle.sheet.specs.Refusals.{fine, front}
-use Rattle.sheet.specs.Answers as sheet
-use Rattle.sheet.proofs.Refusals.{front-fine}
-use Rattle.sheet.proofs.Walk.{few-bands}
+use Rattle.herald.specs.Herald.{rowLength}
+use Rattle.herald.specs.Refusals.{fine, front}
+use Rattle.herald.specs.Answers as herald
+use Rattle.herald.proofs.Refusals.{front-fine}
+use Rattle.herald.proofs.Herald.{few-bytes, most-bands}
 use Rattle.film.specs.Demand3.{Has, sizeOf}
-use Rattle.film.specs.Found.{reached, InSheet}
+use Rattle.film.specs.Functions.{reached, InSheet}
 use Rattle.film.proofs.Answers.{answer-front, answer-11, answer-12}
-use Rattle.film.proofs.Drawing.{few-bytes, most-bands, promised-refusal, Walks, promised-stop, promised-nowhere, promised-found}
+use Rattle.film.proofs.Drawing.{promised-refusal, Walks, promised-stop, promised-nowhere, promised-found}
 use Rattle.film.proofs.draw.Statement.{statement}
 use Rattle.film.proofs.draw.Tie as tie
 
@@ -29,7 +27,7 @@ returns c =
     let a = c .before .before .before .before .before .before .before .args in
     promised-refusal _ _ _ _ _ _ _
     (answer-front _ _ (a .page) (a .band) (length (a .buffer .now)) _ _
-    (sym (c .before .before .before .test-front .ensures) ∙ ap sheet.told (c .before .n .given .1)))
+    (sym (c .before .before .before .test-front .ensures) ∙ ap herald.told (c .before .n .given .1)))
 
 enum-told : tie.Need-enum-told
 enum-told c = c .match .keys2
@@ -45,7 +43,7 @@ cast-if1 c = omega arith
 
 -- the front table refuses nothing
 front-is : (c : tie.After-enum-told) → let a = c .before .before .before .before .before .before .args in front (a .sheet .now) (a .load .now) ≡ fine
-front-is c = sym (c .before .before .test-front .ensures) ∙ ap sheet.told (c .enum-told .given .1)
+front-is c = sym (c .before .before .test-front .ensures) ∙ ap herald.told (c .enum-told .given .1)
 
 returns-2 : tie.Need-returns-2
 returns-2 c =
@@ -64,7 +62,7 @@ has c =
     record { page-there = omega (arith, w .word .ensures); band-there = omega (arith, w .before .bands-per-page .ensures) }
 
 band-lines-requires : tie.Need-band-lines-requires
-band-lines-requires c κs = (front-is (c .before .before .before .before), has c .band-there)
+band-lines-requires c κs = (front-fine _ _ (front-is (c .before .before .before .before)) .band-low, has c .band-there)
 
 cast-if3 : tie.Need-cast-if3
 cast-if3 c = omega arith
@@ -145,10 +143,7 @@ draw-found-requires c κs =
     let inside = subst (InSheet (a .sheet .now)) (c .before .before .from .given .1) (c .before .before .before .before .find-band .ensures .1) in
     let same : l .band-lines .result .rows * rowLength (l .band-lines .result .width) ≡ l .band-lines .result .rows * r .row-bytes .result =
     sym (ap (λ (w : ℕ). l .band-lines .result .rows * w) (r .row-bytes .ensures)) in (
-      inside .0,
-      inside .1,
-      omega (arith, l .band-lines .ensures .2, front-fine (a .sheet .now) (a .load .now) f .dots-low),
-      omega (arith, same),
+      (inside .0, inside .1, omega (arith, l .band-lines .ensures .2, front-fine (a .sheet .now) (a .load .now) f .dots-low), omega (arith, same)),
       omega (arith, same, few r),
     )
 

@@ -1,11 +1,12 @@
 -- `film::draw_found` meets its contract: the commands are read, carried out, and the rows' ones counted. Assumes nothing.
-use mathlib.Core.Path.{_≡_, sym, ap, _∙_}
+use mathlib.Core.Path.{sym, ap, _∙_}
 use Prim.Native.Nat.{ℕ, _*_}
 use native.Mathlib.Omega.{arith}
 use lib.ListN.{take}
 use Rattle.row.specs.Counts.{onesOf}
-use Rattle.sheet.specs.Answers.{told}
-use Rattle.film.proofs.Drawing.{reading, within-rows, all-read, band-refused, band-drawn}
+use Rattle.herald.specs.Answers.{told}
+use Rattle.sheet.specs.Check.{reading}
+use Rattle.film.proofs.Drawing.{within-rows, all-read, band-refused, band-drawn}
 use Rattle.film.proofs.draw_found.Statement.{statement}
 use Rattle.film.proofs.draw_found.Tie as tie
 
@@ -29,10 +30,7 @@ ink-band-requires c κs =
     let s = c .before .before .before .before .before .before .before in
     let a = s .args in (
       s .pre .0,
-      s .pre .1,
-      s .pre .2,
-      s .pre .3,
-      all-read (a .band .width) (a .band .first) (a .band .rows) (a .from) (reading (a .sheet .now) (a .load .now) (a .from) (a .end))
+      all-read (a .from) (reading (a .sheet .now) (a .load .now) (a .from) (a .end))
           (sym (ap told (c .before .enum-told .given .1)) ∙ c .before .before .before .test-band .ensures),
     )
 
@@ -46,7 +44,7 @@ count-dots-requires : tie.Need-count-dots-requires
 count-dots-requires c κs =
     let s = c .before .before .before .before .before .before .before .before .before .before .before .before .before in
     let i = c .before .before .before .before .before .ink-band in
-    within-rows (s .args .band .rows) (s .args .band .width) _ (s .args .buffer .now) (i .last .0) (c .row-bytes .ensures) (i .kept .0) (s .pre .3) (s .pre .4)
+    within-rows (s .args .band .rows) (s .args .band .width) _ (s .args .buffer .now) (i .last .0) (c .row-bytes .ensures) (i .kept .0) (s .pre .0 .3) (s .pre .1)
 
 same-length : tie.Need-same-length
 same-length c = c .before .before .before .before .before .before .ink-band .kept .0

@@ -1,49 +1,61 @@
 -- `film::ink_band` meets its contract. The loop's invariant: the rows show what the commands before place p ink. A refusal is never met, by the
 -- contract's requires. The measure is the number of words left. Assumes nothing.
-use mathlib.Core.Path.{_∙_}
-use Prim.Native.Nat.{_-_, _*_, _≤_, _<_}
+use mathlib.Core.Path.{_≡_, ap, _∙_}
+use mathlib.Core.List.{_++_}
+use Prim.Native.Nat.{ℕ, _-_, _*_, _≤_, _<_}
 use native.Mathlib.Omega.{arith}
-use lib.ListN.{length}
-use Rattle.sheet.specs.Herald.{rowLength}
-use Rattle.film.proofs.Inking.{product-fits, Inked, inked-first, inked-length, inked-done, inked-whole, inked-next}
+use lib.ListN.{length, drop}
+use Rattle.herald.specs.Herald.{rowLength}
+use Rattle.ink.proofs.Bands.{rows-bytes}
+use Rattle.film.proofs.Inking.{blank, Inked, inked-first, inked-length, inked-done, inked-whole, inked-next}
 use Rattle.film.proofs.ink_band.Statement.{statement}
 use Rattle.film.proofs.ink_band.Tie as tie
 
 abbrev Inv-loop : tie.InvT-loop
-Inv-loop buf₀ band sheet load from end width colour₀ least₀ p₀ buf colour least p =
+Inv-loop buf₀ band sheet load from end colour₀ least₀ p₀ buf colour least p =
     Inked (band .width) (band .first) (band .rows) sheet load from end buf₀ buf colour least p
 
 abbrev μ-loop : tie.MeasureT-loop
-μ-loop buf₀ band sheet load from end width colour₀ least₀ p₀ buf colour least p = end - p
-
-cast-width : tie.Need-cast-width Inv-loop μ-loop
-cast-width c = omega arith
+μ-loop buf₀ band sheet load from end colour₀ least₀ p₀ buf colour least p = end - p
 
 cast-clear : tie.Need-cast-clear Inv-loop μ-loop
 cast-clear c = omega arith
 
-add-clear : tie.Need-add-clear Inv-loop μ-loop
-add-clear c = omega arith
+row-bytes-requires : tie.Need-row-bytes-requires Inv-loop μ-loop
+row-bytes-requires c κs = tt
+
+-- the bytes of the rows
+size-is : (c : tie.After-row-bytes Inv-loop μ-loop)
+    → (let b = c .before .before .before .before .before .before .args .band in b .rows * c .row-bytes .result ≡ b .rows * rowLength (b .width))
+size-is c = ap (λ (w : ℕ). c .before .before .before .before .before .before .args .band .rows * w) (c .row-bytes .ensures)
 
 mul-clear : tie.Need-mul-clear Inv-loop μ-loop
-mul-clear c = omega arith
-
-mul-clear-2 : tie.Need-mul-clear-2 Inv-loop μ-loop
-mul-clear-2 c = record { fits = product-fits (omega arith) (omega arith) }
+mul-clear c =
+    let b = c .before .before .before .before .before .before .args .band in
+    omega (arith, size-is c, rows-bytes (b .rows) (b .width) (omega arith) (omega arith))
 
 clear-requires : tie.Need-clear-requires Inv-loop μ-loop
-clear-requires c κs = c .before .before .before .before .before .before .pre .3
+clear-requires c κs = omega (arith, size-is c, c .before .before .before .before .before .before .pre .0 .3)
+
+-- the cleared buffer
+cleared : (c : tie.After-slice-known2 Inv-loop μ-loop)
+    → (let a = c .before .before .before .before .before .before .before .before .before .args in
+    let n = a .band .rows * rowLength (a .band .width) in
+    c .before .before .clear .last .0 ≡ blank n ++ drop n (a .buf .now))
+cleared c =
+    let a = c .before .before .before .before .before .before .before .before .before .args in
+    c .before .before .clear .ensures ∙ ap (λ (n : ℕ). blank n ++ drop n (a .buf .now)) (size-is (c .before .before .before))
 
 -- the cleared buffer has room for the rows
 fits : (c : tie.After-slice-known2 Inv-loop μ-loop)
     → (let a = c .before .before .before .before .before .before .before .before .before .args in
     a .band .rows * rowLength (a .band .width) ≤ length (c .before .before .clear .last .0))
-fits c = omega (arith, c .before .before .clear .kept .0, c .before .before .before .before .before .before .before .before .before .pre .3)
+fits c = omega (arith, c .before .before .clear .kept .0, c .before .before .before .before .before .before .before .before .before .pre .0 .3)
 
 loop-holds : tie.Need-loop-holds Inv-loop μ-loop
 loop-holds c =
     let b = c .before .before .before .before .before .before .before .before .before in
-    inked-first _ (fits c) (b .pre .2) (λ i. c .slice-known2 .given i .fits) (c .before .before .clear .ensures) (b .pre .4)
+    inked-first _ (fits c) (b .pre .0 .2) (λ i. c .slice-known2 .given i .fits) (cleared c) (b .pre .1)
 
 read-command-requires : tie.Need-read-command-requires Inv-loop μ-loop
 read-command-requires c κs = tt
@@ -64,7 +76,7 @@ returns c =
     let r = c .before .before in
     let l = r .before .before in
     let b = l .before .before .before .before .before .before .before .before .before .before in
-    absurd (inked-whole (l .loop .inv) (r .before .loop-test .taken) (b .pre .1) _ (r .read-command .ensures) _ _ (c .enum-told .given .1))
+    absurd (inked-whole (l .loop .inv) (r .before .loop-test .taken) (b .pre .0 .1) _ (r .read-command .ensures) _ _ (c .enum-told .given .1))
 
 ink-command-requires : tie.Need-ink-command-requires Inv-loop μ-loop
 ink-command-requires c κs = tt
@@ -89,7 +101,7 @@ passed c =
     let r = k .before .before in
     let l = r .before .before in
     let b = l .before .before .before .before .before .before .before .before .before .before in
-    inked-next (l .loop .inv) (r .before .loop-test .taken) (b .pre .1) _ (r .read-command .ensures) _ _ (fits (l .before)) (k .r .given .1)
+    inked-next (l .loop .inv) (r .before .loop-test .taken) (b .pre .0 .1) _ (r .read-command .ensures) _ _ (fits (l .before)) (k .r .given .1)
     (c .before .before .before .before .ink-command .ensures) (c .before .colour-after .ensures) (c .priority-after .ensures _ _)
 
 loop-less : tie.Need-loop-less Inv-loop μ-loop
@@ -105,8 +117,8 @@ returns-2 : tie.Need-returns-2 Inv-loop μ-loop
 returns-2 c =
     let l = c .before in
     let k = l .before in
-    inked-done _ (fits k) (k .before .before .before .before .before .before .before .before .before .pre .2) (λ i. k .slice-known2 .given i .fits)
-    (k .before .before .clear .ensures) (l .loop .inv) (omega arith)
+    inked-done _ (fits k) (k .before .before .before .before .before .before .before .before .before .pre .0 .2) (λ i. k .slice-known2 .given i .fits)
+    (cleared k) (l .loop .inv) (omega arith)
 
 pub ink-band-spec : {M : Type 1} → statement M
 ink-band-spec =
@@ -114,11 +126,9 @@ ink-band-spec =
     (tie.spec
     Inv-loop
     μ-loop
-    cast-width
     cast-clear
-    add-clear
+    row-bytes-requires
     mul-clear
-    mul-clear-2
     clear-requires
     loop-holds
     read-command-requires

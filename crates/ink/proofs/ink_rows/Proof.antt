@@ -8,7 +8,7 @@ use native.Mathlib.Omega.{arith}
 use borrow.Author.Tests.{ltb-true, ltb-false}
 use lib.ListN.{length}
 use Rattle.words.specs.Words.{words}
-use Rattle.sheet.specs.Herald.{rowLength}
+use Rattle.herald.specs.Herald.{rowLength}
 use Rattle.paint.specs.Colours.{colourWith}
 use Rattle.lines.specs.Lines.{firstLine, lineCount}
 use Rattle.ink.proofs.BandLines.{Lined, lined-first, lined-length, lined-fits, lined-next, lined-done, lined-below}

@@ -5,7 +5,7 @@ use native.Mathlib.Omega.{arith}
 use mathlib.Core.Path.{refl}
 use borrow.Rule.Slice.PartMut.{same-len-mid}
 use lib.ListN.{length}
-use Rattle.sheet.specs.Herald.{rowLength}
+use Rattle.herald.specs.Herald.{rowLength}
 use Rattle.imaging.specs.Masks.{within}
 use Rattle.ink.proofs.Bands.{row-fits, band-off, band-one}
 use Rattle.ink.proofs.ink_run.Statement.{statement}

@@ -1,6 +1,6 @@
 -- `sheet::check` meets its contract: the table, and then the walk. Assumes nothing.
 use mathlib.Core.Path.{sym, ap, _∙_}
-use Rattle.sheet.specs.Answers.{told}
+use Rattle.herald.specs.Answers.{told}
 use Rattle.sheet.proofs.Checking.{answer-is}
 use Rattle.sheet.proofs.check.Statement.{statement}
 use Rattle.sheet.proofs.check.Tie as tie

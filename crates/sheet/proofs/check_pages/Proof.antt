@@ -6,10 +6,10 @@ use native.Mathlib.Omega.{arith}
 use lib.ListN.{length}
 use Rattle.words.specs.Words.{words}
 use Rattle.words.proofs.Words.{length-words}
-use Rattle.sheet.specs.Herald.{heraldOf}
-use Rattle.sheet.specs.Answers.{told}
-use Rattle.sheet.proofs.Refusals.{front-fine}
-use Rattle.sheet.proofs.Walk.{few-bands, walk-missing, walk-past, walk-wrong, walk-page}
+use Rattle.herald.specs.Answers.{told}
+use Rattle.herald.proofs.Refusals.{front-fine}
+use Rattle.herald.proofs.Herald.{most-bands}
+use Rattle.sheet.proofs.Walk.{walk-missing, walk-past, walk-wrong, walk-page}
 use Rattle.sheet.proofs.Checking.{CheckedTo, check-start, check-bad, check-page, check-band, check-stops, check-more, check-done}
 use Rattle.sheet.proofs.check_pages.Statement.{statement}
 use Rattle.sheet.proofs.check_pages.Tie as tie
@@ -40,7 +40,7 @@ loop-holds c =
       omega (arith, f .sheet-words, length-words sheet),
       omega arith,
       omega arith,
-      omega (arith, m .bands-per-page .ensures, few-bands (heraldOf (words sheet)), f .lines-high, f .band-high),
+      omega (arith, m .bands-per-page .ensures, most-bands sheet _ (s .pre)),
       check-start _ _ _ _ (m .bands-per-page .ensures) (c .word .ensures),
     )
 

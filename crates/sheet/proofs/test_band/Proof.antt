@@ -7,7 +7,7 @@ use native.Mathlib.Omega.{arith}
 use lib.ListN.{length}
 use Rattle.words.specs.Words.{words}
 use Rattle.words.proofs.Words.{length-words}
-use Rattle.sheet.specs.Answers.{told}
+use Rattle.herald.specs.Answers.{told}
 use Rattle.sheet.proofs.Checking.{BandTo, band-none, band-start, band-on, band-stops, band-done}
 use Rattle.sheet.proofs.test_band.Statement.{statement}
 use Rattle.sheet.proofs.test_band.Tie as tie

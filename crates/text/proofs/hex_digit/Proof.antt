@@ -1,6 +1,6 @@
 -- `text::hex_digit` meets its contract. Assumes nothing.
 use native.Mathlib.Omega.{arith}
-use Rattle.text.proofs.Numbers.{capital-low, capital-high}
+use Rattle.text.proofs.Numbers.{hex-digit-low, hex-digit-high}
 use Rattle.text.proofs.hex_digit.Statement.{statement}
 use Rattle.text.proofs.hex_digit.Tie as tie
 
@@ -11,10 +11,10 @@ add-result-2 : tie.Need-add-result-2
 add-result-2 c = omega arith
 
 returns : tie.Need-returns
-returns c = capital-low (c .if1 .taken)
+returns c = hex-digit-low (c .if1 .taken)
 
 returns-2 : tie.Need-returns-2
-returns-2 c = capital-high (c .if1 .left)
+returns-2 c = hex-digit-high (c .if1 .left)
 
 pub hex-digit-spec : {M : Type 1} → statement M
 hex-digit-spec = tie.close (tie.spec add-result add-result-2 returns returns-2)

@@ -1,4 +1,4 @@
--- `sheet::test_front` meets its contract: a call of `line` for each line of the table. The bytes of a band fit, since sizes are words. Assumes
+-- `herald::test_front` meets its contract: a call of `line` for each line of the table. The bytes of a band fit, since sizes are words. Assumes
 -- nothing.
 use mathlib.Core.Path.{refl, sym, ap, ap₂, _∙_}
 use mathlib.Core.Bool.{not}
@@ -10,11 +10,11 @@ use Rattle.words.proofs.Words.{length-words}
 use Rattle.words.proofs.Arrays.{sizes-fit}
 use Rattle.words.specs.Words.{words, at, longAt}
 use Rattle.words.specs.Load.{loadCount}
-use Rattle.sheet.specs.Herald.{pageCount, rowLength}
-use Rattle.sheet.specs.Refusals.{odd, tooLong, outside, lengthTable, passwordTable, sizeTable, loadTable, pageTable, frontTable, front}
-use Rattle.sheet.proofs.Refusals.{none-yet, one-more}
-use Rattle.sheet.proofs.test_front.Statement.{statement}
-use Rattle.sheet.proofs.test_front.Tie as tie
+use Rattle.herald.specs.Herald.{pageCount, rowLength}
+use Rattle.herald.specs.Refusals.{odd, tooLong, outside, lengthTable, passwordTable, sizeTable, loadTable, pageTable, frontTable, front}
+use Rattle.herald.proofs.Refusals.{none-yet, one-more}
+use Rattle.herald.proofs.test_front.Statement.{statement}
+use Rattle.herald.proofs.test_front.Tie as tie
 
 word-requires : tie.Need-word-requires
 word-requires c κs = tt

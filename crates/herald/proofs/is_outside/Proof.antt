@@ -1,7 +1,7 @@
--- `sheet::is_outside` meets its contract: the first test that holds, or the second. Assumes nothing.
+-- `herald::is_outside` meets its contract: the first test that holds, or the second. Assumes nothing.
 use borrow.Author.Tests.{lt-ltb, le-ltb}
-use Rattle.sheet.proofs.is_outside.Statement.{statement}
-use Rattle.sheet.proofs.is_outside.Tie as tie
+use Rattle.herald.proofs.is_outside.Statement.{statement}
+use Rattle.herald.proofs.is_outside.Tie as tie
 
 returns : tie.Need-returns
 returns c = rw (lt-ltb (c .before .args .x) (c .before .args .low) (c .if1 .taken))

@@ -7,7 +7,7 @@ use lib.Dec.{ltb, eqb}
 use lib.ListN.{length}
 use Rattle.words.specs.Words.{words, at, bytesOf}
 use Rattle.words.specs.Load.{loadCount}
-use Rattle.sheet.specs.Herald.{Herald, heraldOf, pageCount, rowLength}
+use Rattle.herald.specs.Herald.{Herald, heraldOf, pageCount, rowLength}
 
 -- a line of the table: its test, and the refusal's number and place
 pub record Line : Type 0 where

@@ -1,12 +1,12 @@
--- `sheet::bands_per_page` meets its contract: a quotient, rounded up. Assumes nothing.
+-- `herald::bands_per_page` meets its contract: a quotient, rounded up. Assumes nothing.
 use mathlib.Core.Path.{_≡_, sym, ap, ap₂, _∙_}
 use Prim.Native.Nat.{ℕ, _+_, _-_}
 use native.Mathlib.Nat.{div-zero}
 use native.Mathlib.Omega.{arith}
 use Rattle.words.specs.Words.{ceilDiv}
-use Rattle.sheet.specs.Herald.{bandCount}
-use Rattle.sheet.proofs.bands_per_page.Statement.{statement}
-use Rattle.sheet.proofs.bands_per_page.Tie as tie
+use Rattle.herald.specs.Herald.{bandCount}
+use Rattle.herald.proofs.bands_per_page.Statement.{statement}
+use Rattle.herald.proofs.bands_per_page.Tie as tie
 
 word-requires : tie.Need-word-requires
 word-requires c κs = tt
