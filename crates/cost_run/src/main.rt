@@ -2,7 +2,7 @@
 // numbers of eight bytes each, high byte first: the sheet's bytes, the load's bytes, page and band; then sheet and load. It has at most 131,072
 // bytes. Of another input nothing is printed.
 ghost use Prim.Native.Nat.{_≤_};
-use film::Drawn;
+use demand::Drawn;
 use film::draw;
 use words::word;
 

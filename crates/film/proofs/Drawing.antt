@@ -17,15 +17,15 @@ use Rattle.sheet.specs.Layout.{layoutOf, bandIndex, Reached, found, stopped, no
 use Rattle.sheet.specs.Check.{reading, bandVerdict}
 use Rattle.herald.proofs.Herald.{begins}
 use Rattle.imaging.specs.Pictures.{rowsOf}
-use Rattle.film.specs.Picture.{commandsRead}
-use Rattle.film.specs.Draw.{DrawAnswer, refused, drawRows, drawReached, drawAnswer, bufferAfter}
-use Rattle.film.specs.Promise.{done, refusal, told, due, Promised}
+use Rattle.demand.specs.Picture.{commandsRead}
+use Rattle.demand.specs.Draw.{DrawAnswer, refused, drawRows, drawReached, drawAnswer, bufferAfter}
+use Rattle.demand.specs.Promise.{done, refusal, told, due, Promised}
 use Rattle.film.specs.Functions.{AllRead}
-use Rattle.film.specs.Demand3.{Has, sizeOf}
-use Rattle.film.specs.declared.Drawn.{Drawn}
-use Rattle.film.specs.declared.Drawn.the-variants.{Refused}
-use Rattle.film.proofs.Rows.{length-rows}
-use Rattle.film.proofs.Answers.{answer-reached}
+use Rattle.demand.specs.Demand3.{Has, sizeOf}
+use Rattle.demand.specs.declared.Drawn.{Drawn}
+use Rattle.demand.specs.declared.Drawn.the-variants.{Refused}
+use Rattle.demand.proofs.Rows.{length-rows}
+use Rattle.demand.proofs.Answers.{answer-reached}
 
 -- ---- a band's lines
 

@@ -36,7 +36,7 @@ use Rattle.ink.specs.Colours.{colourOf, colourNext}
 use Rattle.ink.specs.Bands.{paintedDot, paintedBand}
 use Rattle.ink.proofs.Bands.{band-is}
 use Rattle.ink.proofs.Colours.{colour-next}
-use Rattle.film.specs.Picture.{commandsRead}
+use Rattle.demand.specs.Picture.{commandsRead}
 
 -- ---- the first i bytes are 0
 

@@ -8,7 +8,7 @@ use Rattle.words.specs.Parts.{partOf}
 use Rattle.commands.specs.Band.{Reading, read}
 use Rattle.herald.specs.Herald.{rowLength}
 use Rattle.sheet.specs.Layout.{Reached, found, stopped, nowhere}
-use Rattle.film.specs.Picture.{commandsRead}
+use Rattle.demand.specs.Picture.{commandsRead}
 use Rattle.film.specs.declared.Found as code
 use Rattle.film.specs.declared.Found.the-variants.{At, Stopped, Nowhere}
 

@@ -11,12 +11,13 @@ ghost use Rattle.herald.specs.Herald.{heraldOf, bandCount, bandStart, bandRows,
 ghost use Rattle.sheet.specs.Layout.{layoutOf, reach};
 ghost use Rattle.sheet.specs.Check.{reading};
 ghost use Rattle.imaging.specs.Pictures.{rowsOf};
-ghost use Rattle.film.specs.Picture.{commandsRead};
-ghost use Rattle.film.specs.Draw.{drawRows, bufferAfter};
-ghost use Rattle.film.specs.Promise.{told, due, Promised};
+ghost use Rattle.demand.specs.Picture.{commandsRead};
+ghost use Rattle.demand.specs.Draw.{drawRows, bufferAfter};
+ghost use Rattle.demand.specs.Promise.{told, due, Promised};
 ghost use Rattle.film.specs.Functions.{reached, InSheet, Fits, AllRead};
 use commands::Read;
 use commands::read_command;
+use demand::Drawn;
 use herald::Tested;
 use herald::bands_per_page;
 use herald::row_bytes;
@@ -34,12 +35,6 @@ use words::word;
 const NO_BAND: u8 = 11;
 
 const SHORT_BUFFER: u8 = 12;
-
-// The number of scan lines and of one bits drawn, or a refusal's number and place.
-pub enum Drawn {
-    Done(usize, usize),
-    Refused(u8, usize),
-}
 
 // What the walk to a band meets: the places of its first command and of what comes after its last; a refusal; or the end of the pages.
 enum Found {

@@ -2,7 +2,7 @@
 ghost use mathlib.Core.Path.{_≡_};
 ghost use Rattle.sheet.specs.Answers.{answered};
 ghost use Rattle.lister.specs.Listing.{listAnswer};
-use film::Drawn;
+use demand::Drawn;
 use film::draw;
 use herald::bands_per_page;
 use herald::row_bytes;

@@ -9,9 +9,9 @@ use Rattle.herald.specs.Refusals.{fine, front}
 use Rattle.herald.specs.Answers as herald
 use Rattle.herald.proofs.Refusals.{front-fine}
 use Rattle.herald.proofs.Herald.{few-bytes, most-bands}
-use Rattle.film.specs.Demand3.{Has, sizeOf}
+use Rattle.demand.specs.Demand3.{Has, sizeOf}
 use Rattle.film.specs.Functions.{reached, InSheet}
-use Rattle.film.proofs.Answers.{answer-front, answer-11, answer-12}
+use Rattle.demand.proofs.Answers.{answer-front, answer-11, answer-12}
 use Rattle.film.proofs.Drawing.{promised-refusal, Walks, promised-stop, promised-nowhere, promised-found}
 use Rattle.film.proofs.draw.Statement.{statement}
 use Rattle.film.proofs.draw.Tie as tie

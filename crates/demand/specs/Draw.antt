@@ -21,7 +21,7 @@ use Rattle.sheet.specs.Layout.{bandsThen, pagesFrom, layoutOf, bandIndex, Reach
 use Rattle.imaging.specs.Masks.{masked, sample, inRuns, within}
 use Rattle.imaging.specs.Colours.{painted, tileDot, tileStart}
 use Rattle.imaging.specs.Pictures.{rowsOf, numbered, rowBytes, filmOf, carryOut}
-use Rattle.film.specs.Examples.{emptyLoad, listing, twoPages, cutBand, onePage}
+use Rattle.demand.specs.Examples.{emptyLoad, listing, twoPages, cutBand, onePage}
 
 -- rows, dots, and the bytes of the rows; or a refusal
 pub data DrawAnswer : Type 0 where

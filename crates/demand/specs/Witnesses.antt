@@ -17,10 +17,10 @@ use Rattle.sheet.specs.Check.{checkAnswer, checkLayout, pages}
 use Rattle.imaging.specs.Masks.{masked, sample, inRuns, within}
 use Rattle.imaging.specs.Colours.{painted, tileDot, tileStart}
 use Rattle.imaging.specs.Pictures.{rowsOf, numbered, rowBytes, filmOf, carryOut}
-use Rattle.film.specs.Examples.{emptyLoad, listing, listing₂, twoPages, twoPages₂, cutBand, loadSheet, loadFile}
-use Rattle.film.specs.Draw.{drawTable, drawAnswer, bufferAfter}
-use Rattle.film.specs.Demand3.{Buffers, draw, write, Call, Made, over, wrote, called, OneOfEach, none, more, Alike}
-use Rattle.film.specs.declared.Drawn.the-variants.{Done, Refused}
+use Rattle.demand.specs.Examples.{emptyLoad, listing, listing₂, twoPages, twoPages₂, cutBand, loadSheet, loadFile}
+use Rattle.demand.specs.Draw.{drawTable, drawAnswer, bufferAfter}
+use Rattle.demand.specs.Demand3.{Buffers, draw, write, Call, Made, over, wrote, called, OneOfEach, none, more, Alike}
+use Rattle.demand.specs.declared.Drawn.the-variants.{Done, Refused}
 
 -- every buffer holds five bytes at first
 abbrev five : Buffers

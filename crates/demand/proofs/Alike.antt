@@ -17,13 +17,13 @@ use Rattle.commands.specs.Band.{readBand, read}
 use Rattle.herald.specs.Herald.{Herald, heraldOf, pageCount, bandCount, bandBytes}
 use Rattle.sheet.specs.Layout.{Layout, bad, band, bandsThen, pagesFrom, layoutOf, bandIndex, Reached, found, stopped, nowhere, reach}
 use Rattle.sheet.specs.Check.{pages, checkLayout}
-use Rattle.film.specs.Picture.{wordsReached, commandsRead, bandCommands}
-use Rattle.film.specs.Draw.{DrawAnswer, drawn, drawBand, drawAnswer, bufferAfter}
-use Rattle.film.specs.Promise.{due, Promised}
-use Rattle.film.specs.Demand3.{Has, sizeOf, Alike, isDone, SameBand}
-use Rattle.film.specs.declared.Drawn.{Drawn}
-use Rattle.film.proofs.Walk.{ok-after, chosen}
-use Rattle.film.proofs.Calls.{Known, answer-drawn, band-size}
+use Rattle.demand.specs.Picture.{wordsReached, commandsRead, bandCommands}
+use Rattle.demand.specs.Draw.{DrawAnswer, drawn, drawBand, drawAnswer, bufferAfter}
+use Rattle.demand.specs.Promise.{due, Promised}
+use Rattle.demand.specs.Demand3.{Has, sizeOf, Alike, isDone, SameBand}
+use Rattle.demand.specs.declared.Drawn.{Drawn}
+use Rattle.demand.proofs.Walk.{ok-after, chosen}
+use Rattle.demand.proofs.Calls.{Known, answer-drawn, band-size}
 
 -- ---- places go up
 

@@ -11,9 +11,9 @@ use Rattle.words.specs.Words.{words}
 use Rattle.herald.specs.Herald.{heraldOf, pageCount, bandCount, bandStart, bandRows, bandBytes, rowLength}
 use Rattle.sheet.specs.Layout.{layoutOf, bandIndex, found, reach}
 use Rattle.sheet.specs.Check.{checkAnswer, pages}
-use Rattle.film.specs.Picture.{picture}
-use Rattle.film.specs.Promise.{Told, done, refusal, told, Promised}
-use Rattle.film.specs.declared.Drawn.{Drawn}
+use Rattle.demand.specs.Picture.{picture}
+use Rattle.demand.specs.Promise.{Told, done, refusal, told, Promised}
+use Rattle.demand.specs.declared.Drawn.{Drawn}
 
 -- ---- draw calls, one after another, on buffers that may serve again
 

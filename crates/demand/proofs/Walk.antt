@@ -13,8 +13,8 @@ use Rattle.commands.specs.Band.{Reading, read, refusedAt, readBand}
 use Rattle.herald.specs.Herald.{heraldOf, pageCount, bandCount}
 use Rattle.sheet.specs.Layout.{Layout, end, bad, band, bandsThen, pagesFrom, layoutOf, bandIndex, Reached, found, stopped, nowhere, reach}
 use Rattle.sheet.specs.Check.{pages, refused, bandVerdict, checkAfter, checkLayout}
-use Rattle.film.specs.Picture.{wordsReached, commandsRead}
-use Rattle.film.specs.Demand3.{Has}
+use Rattle.demand.specs.Picture.{wordsReached, commandsRead}
+use Rattle.demand.specs.Demand3.{Has}
 
 -- ---- the end of the pages is never met on the way to a band that the counts promise
 

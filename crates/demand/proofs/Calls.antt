@@ -23,13 +23,13 @@ use Rattle.sheet.specs.Layout.{layoutOf, bandIndex, reach}
 use Rattle.sheet.specs.Check.{CheckAnswer, pages, checkAfter, checkLayout, checkAnswer}
 use Rattle.herald.proofs.Refusals.{front-fine}
 use Rattle.imaging.specs.Pictures.{rowBytes, filmOf, rowsOf}
-use Rattle.film.specs.Picture.{bandCommands, picture}
-use Rattle.film.specs.Draw.{DrawAnswer, drawn, refused, drawBand, drawReached, drawAnswer, bufferAfter}
-use Rattle.film.specs.Promise.{due, told, Promised}
-use Rattle.film.specs.Demand3.{Buffers, Step, put, Call, Made, over, wrote, called, Has, sizeOf, rowsOfPicture, Drew, RefusedWith, isDone, dotsTold, standing, OneOfEach, none, more, OfTheCalls}
-use Rattle.film.proofs.Rows.{length-numbered, drop-numbered, take-numbered, numbered-same, joined-cut, length-rows, take-min}
-use Rattle.film.proofs.Walk.{draw-meets, not-pages, There, there}
-use Rattle.film.proofs.Answers.{answer-11, answer-12, answer-reached}
+use Rattle.demand.specs.Picture.{bandCommands, picture}
+use Rattle.demand.specs.Draw.{DrawAnswer, drawn, refused, drawBand, drawReached, drawAnswer, bufferAfter}
+use Rattle.demand.specs.Promise.{due, told, Promised}
+use Rattle.demand.specs.Demand3.{Buffers, Step, put, Call, Made, over, wrote, called, Has, sizeOf, rowsOfPicture, Drew, RefusedWith, isDone, dotsTold, standing, OneOfEach, none, more, OfTheCalls}
+use Rattle.demand.proofs.Rows.{length-numbered, drop-numbered, take-numbered, numbered-same, joined-cut, length-rows, take-min}
+use Rattle.demand.proofs.Walk.{draw-meets, not-pages, There, there}
+use Rattle.demand.proofs.Answers.{answer-11, answer-12, answer-reached}
 
 -- ---- a sheet that the check passes with its load
 

@@ -1,7 +1,7 @@
 -- Demand 3 holds. Assumes nothing.
-use Rattle.film.specs.Demand3.{Demand3}
-use Rattle.film.proofs.Calls.{known, of-the-calls}
-use Rattle.film.proofs.Alike.{same-band}
+use Rattle.demand.specs.Demand3.{Demand3}
+use Rattle.demand.proofs.Calls.{known, of-the-calls}
+use Rattle.demand.proofs.Alike.{same-band}
 
 pub demand3 : Demand3
 demand3 =

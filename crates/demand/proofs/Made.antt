@@ -3,11 +3,11 @@ use mathlib.Core.Path.{_≡_, refl}
 use mathlib.Core.List.{List, [], _∷_}
 use Prim.Native.Nat.{ℕ}
 use lib.ListN.{length}
-use Rattle.film.specs.Draw.{DrawAnswer, drawn, refused, drawAnswer, bufferAfter}
-use Rattle.film.specs.Promise.{due, told, Promised}
-use Rattle.film.specs.Demand3.{Buffers, Step, draw, write, put, Call, Made, over, wrote, called}
-use Rattle.film.specs.declared.Drawn.{Drawn}
-use Rattle.film.specs.declared.Drawn.the-variants.{Done, Refused}
+use Rattle.demand.specs.Draw.{DrawAnswer, drawn, refused, drawAnswer, bufferAfter}
+use Rattle.demand.specs.Promise.{due, told, Promised}
+use Rattle.demand.specs.Demand3.{Buffers, Step, draw, write, put, Call, Made, over, wrote, called}
+use Rattle.demand.specs.declared.Drawn.{Drawn}
+use Rattle.demand.specs.declared.Drawn.the-variants.{Done, Refused}
 
 -- an answer that says what is due
 answered : DrawAnswer → Drawn

@@ -12,8 +12,8 @@ use Rattle.herald.specs.Refusals.{Verdict, fine, Line, refuse, first, orElse, f
 use Rattle.herald.specs.Refusals as refusals
 use Rattle.sheet.specs.Layout.{layoutOf, bandIndex, reach}
 use Rattle.herald.proofs.Refusals.{first-append}
-use Rattle.film.specs.Draw.{refused, drawTable, drawReached, drawAfter, drawAnswer}
-use Rattle.film.specs.Demand3.{Has, sizeOf}
+use Rattle.demand.specs.Draw.{refused, drawTable, drawReached, drawAfter, drawAnswer}
+use Rattle.demand.specs.Demand3.{Has, sizeOf}
 
 -- the two lines of a draw's own table: x and y say that the page and the band are there, z that the buffer is too short
 two-lines : (x y z : Bool) → List Line

@@ -14,7 +14,7 @@ use Rattle.sheet.specs.Layout.{layoutOf, bandsThen, pagesFrom, bandIndex, Reach
 use Rattle.imaging.specs.Masks.{masked, sample, inRuns, within}
 use Rattle.imaging.specs.Colours.{painted, tileDot, tileStart}
 use Rattle.imaging.specs.Pictures.{numbered, rowBytes, filmOf, carryOut}
-use Rattle.film.specs.Examples.{emptyLoad, listing, twoPages, cutBand, loadSheet, loadFile}
+use Rattle.demand.specs.Examples.{emptyLoad, listing, twoPages, cutBand, loadSheet, loadFile}
 
 -- the words of a band that was reached; none where there is no such band
 abbrev pub wordsReached : Reached → List ℕ
