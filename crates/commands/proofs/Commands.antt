@@ -1,7 +1,7 @@
 -- Laws of the commands: how each ends, by its words, and by the places of what it names in the sheet or the load. Assumes nothing.
 use mathlib.Core.Path.{_≡_, refl, sym, ap, ap₂, _∙_, subst}
 use mathlib.Core.Bool.{Bool, true, false, cond}
-use mathlib.Core.List.{List, []}
+use mathlib.Core.List.{List, [], _∷_}
 use mathlib.Core.Option.{Option, none, some}
 use Prim.Native.Nat.{ℕ, zero, suc, _+_, _-_, _/_, _<_, _≤_}
 use native.Mathlib.Decide.{decLe, decLt}
@@ -18,7 +18,7 @@ use Rattle.words.specs.Groups.{groupExtent, group-cases}
 use Rattle.words.proofs.Words.{length-words, at-drop}
 use Rattle.words.proofs.Arrays.{array-fits}
 use Rattle.words.proofs.Groups.{group-fits}
-use Rattle.commands.specs.Commands.{Taken, taken, nowhere, inBand, inLoad, atCode, needs, extended, refuseIf, priority, paint, rectangle, trapezoid, runs, samples, tiled, sideless, OneRow, priorityFrom, tileFrom, rectangleFrom, trapezoidFrom, runsFrom, loadRunsFrom, samplesFrom, loadSamplesFrom, command, commandIn}
+use Rattle.commands.specs.Commands.{Taken, taken, nowhere, inBand, inLoad, atCode, needs, extended, refuseIf, priority, paint, rectangle, trapezoid, runs, samples, tiled, sideless, priorityFrom, tileFrom, rectangleFrom, trapezoidFrom, runsFrom, loadRunsFrom, samplesFrom, loadSamplesFrom, command, commandIn}
 use Rattle.words.proofs.Parts.{part-length, part-first, part-taken, part-within}
 use Rattle.words.proofs.Load.{load-from}
 
@@ -73,10 +73,11 @@ module _ (ws : List ℕ) where
   trapezoid-read a b c d e f l h =
       rw (le-leb 6 (length ws) l, ne-eqb (at ws 1) 1 (λ x. h (b ∙ x))) (cc)
 
--- T3, whatever the other words are
-pub one-row : OneRow
+-- a trapezoid of sSize 1 is refused, whatever its other words are
+pub one-row : (load args : List ℕ) (least sMin fMin fSize fMinLast fSizeLast : ℕ)
+    → commandIn load least (6 ∷ sMin ∷ 1 ∷ fMin ∷ fSize ∷ fMinLast ∷ fSizeLast ∷ args) ≡ atCode 8
 unfolding commandIn command
-one-row = record { t3 = λ load args now sMin fMin fSize fMinLast fSizeLast. trapezoid-one-row _ (omega arith) refl }
+one-row load args least sMin fMin fSize fMinLast fSizeLast = trapezoid-one-row _ (omega arith) refl
 
 -- ---- commands that name an array or a group
 

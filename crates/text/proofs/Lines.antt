@@ -9,9 +9,9 @@ use lib.ListN.{length, getD, drop, set, length-append, length-set}
 use lib.Seq.{drop-cons, drop-length, getD-set-same, drop-set-lt, getD-at}
 use Rattle.text.specs.Numbers.{hexDigit, hexOf, decimalIn, decimal}
 use Rattle.text.specs.Lines.{pageLabel, bandLabel, rowsLabel, dotsLabel, newline, bandLine, rowLine}
-use Rattle.text.specs.Buffers.{written, count}
+use Rattle.buffers.specs.Buffers.{written, count}
 use Rattle.text.proofs.Numbers.{decimal-last, decimal-digit, hex-length, hex-high, hex-low}
-use Rattle.text.proofs.Buffers.{Begun, begun-first, begun-at, begun-next}
+use Rattle.buffers.proofs.Buffers.{Begun, begun-first, begun-at, begun-next}
 
 -- a byte put at place i stands before what was there from the next place on
 pub put-before : (line : List ℕ) (i v : ℕ) → i < length line → drop i (set line i v) ≡ v ∷ drop (suc i) line

@@ -6,7 +6,7 @@ ghost use Prim.Native.Nat.{_+_, _≤_, _<_};
 ghost use lib.ListN.{length, drop};
 ghost use Rattle.text.specs.Numbers.{hexDigit, decimal};
 ghost use Rattle.text.specs.Lines.{pagesLine, bandLine, rowLine, refusalLine};
-ghost use Rattle.text.specs.Buffers.{written, count};
+ghost use Rattle.buffers.specs.Buffers.{written, count};
 
 // A line of labels and numbers is made from its end, as the digits of a number are: what is put into it stands before what is there already.
 
@@ -68,16 +68,7 @@ fn put_line(line: &[u8], start: usize, out: &mut [u8]) -> usize
     ensures { λ r. ⌜ r ≡ count (drop start (now (line .entry))) (now (out .entry)) ⌝ }
     ensures { λ _. ⌜ now (out .exit) ≡ written (drop start (now (line .entry))) (now (out .entry)) ⌝ }
 {
-    let n = line.len() - start;
-    if out.len() < n {
-        return 0;
-    }
-    let mut i = 0;
-    while i < n {
-        out[i] = line[start + i];
-        i += 1;
-    }
-    n
+    buffers::put(&line[start..], out)
 }
 
 // The line `pages 1 bands 2`.

@@ -2,7 +2,7 @@
 use Prim.Native.Nat.{_-_}
 use native.Mathlib.Omega.{arith}
 use lib.ListN.{length, length-set}
-use Rattle.text.proofs.Buffers.{begun-written, counted, too-short, too-short-count}
+use Rattle.buffers.proofs.Buffers.{begun-written, counted, too-short, too-short-count}
 use Rattle.text.proofs.Lines.{Rowed, row-length, row-short, rowed-first, rowed-next, rowed-last}
 use Rattle.text.proofs.row_line.Statement.{statement}
 use Rattle.text.proofs.row_line.Tie as tie

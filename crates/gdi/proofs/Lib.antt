@@ -1,0 +1,11 @@
+-- The laws of Sagem GDI jobs, for the proofs of this crate and of the crates above it. Commands, Groups, Pages, Jobs, Lines and Rows bear the names of
+-- the files in specs/ whose definitions they are about; Passing says that the check passes a line as the line reader reads it; ReadingBack proves the
+-- two statements of specs/ReadingBack.
+pub mod Commands
+pub mod Groups
+pub mod Pages
+pub mod Jobs
+pub mod Lines
+pub mod Passing
+pub mod Rows
+pub mod ReadingBack

@@ -1,0 +1,9 @@
+-- What the answer of the code says.
+use Rattle.gdi.specs.Lines.{LineAnswer, nextLine, afterPage, refusal}
+use Rattle.gdi_read.specs.declared.LineRead as code
+use Rattle.gdi_read.specs.declared.LineRead.the-variants.{Line, PageEnd, Refused}
+
+abbrev pub told : code.LineRead → LineAnswer
+told (Line offset left) = nextLine offset left
+told (PageEnd offset left) = afterPage offset left
+told (Refused number place) = refusal number place

@@ -1,0 +1,15 @@
+-- What the answers of the code say.
+use Rattle.gdi.specs.Writers as writers
+use Rattle.gdi_write.specs.Paper as paper
+use Rattle.gdi_write.specs.declared.Written as code-written
+use Rattle.gdi_write.specs.declared.Written.the-variants.{Bytes, Refused}
+use Rattle.gdi_write.specs.declared.Filled as code-filled
+use Rattle.gdi_write.specs.declared.Filled.the-variants as fills
+
+abbrev pub told : code-written.Written → writers.WriteAnswer
+told (Bytes n) = writers.wrote n
+told (Refused number place) = writers.refused number place
+
+abbrev pub filled : code-filled.Filled → paper.FillAnswer
+filled (fills.Linefill n) = paper.command n
+filled (fills.Refused number place) = paper.refused number place
