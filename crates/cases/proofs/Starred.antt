@@ -10,13 +10,13 @@ use Rattle.imaging.proofs.Rectangle.{rectangle-empty-lines, rectangle-empty-dot
 use Rattle.gdi.specs.Commands.{command}
 use Rattle.gdi.specs.Groups.{admitted, fields, fits, group}
 use Rattle.gdi.specs.Pages.{next}
-use Rattle.gdi.specs.Lines.{dotIn, rowLength, lineRow, lineFrom, lineAt}
+use Rattle.gdi.specs.Lines.{lineDot, rowLength, lineRow, lineFrom, lineAt}
 use Rattle.gdi.specs.Rows.{commandBytes}
 use Rattle.gdi.proofs.Commands.{command-one, command-two}
 use Rattle.cases.specs.Starred.{Starred}
 
 pub starred : Starred
-unfolding rowsOf numbered rowBytes rowOf byteOf filmOf carryOut painted masked within command next lineAt lineFrom lineRow rowLength dotIn admitted fields fits group commandBytes
+unfolding rowsOf numbered rowBytes rowOf byteOf filmOf carryOut painted masked within command next lineAt lineFrom lineRow rowLength lineDot admitted fields fits group commandBytes
 starred =
     record {
       r = refl;

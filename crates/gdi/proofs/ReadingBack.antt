@@ -18,7 +18,7 @@ use Rattle.gdi.specs.Commands.{Command, dotsOf}
 use Rattle.gdi.specs.Groups.{group-cases, pageHead, headBytes, fits, admitted, fields, group, pageEndBytes, documentEndBytes}
 use Rattle.gdi.specs.Pages.{toBlock, toEnd, inGap, next}
 use Rattle.gdi.specs.Jobs.{between, inPage, onward, step, stepBetween, stepInPage, longest, walk, jobAnswer, pages}
-use Rattle.gdi.specs.Lines.{dotIn, rowLength, lineRow, Line, line, withCommand, lineFrom, lineAt, rowAfter, nextLine, afterPage, answerOf}
+use Rattle.gdi.specs.Lines.{lineDot, rowLength, lineRow, Line, line, withCommand, lineFrom, lineAt, rowAfter, nextLine, afterPage, answerOf}
 use Rattle.gdi.specs.Rows.{runsFrom, runs, longestRun, commandBytes, blocks, blockBytes, rowBytes}
 use Rattle.gdi.specs.Writers.{Writing, writes, refuses, put, PageHead, pageHeadBytes, pageHeadWriting, rowWriting}
 use Rattle.gdi.specs.ReadingBack.{RowReadsBack, TakesRow, ReadsRow, Page, All, none, more, TakesPage, rowsBytes, pageBytes, jobBytes, ReadsRows, no-more, one-more, WrittenJob}
@@ -172,9 +172,9 @@ row-taken width row t =
 runs-row : (width : ℕ) (row : List ℕ) → Bytes row → Taken width row → lineRow width (runs width row) ≡ row
 unfolding lineRow runs
 runs-row width row bytes t =
-    sym (row-is (rowLength width) (λ f. ltb f width && dotIn (runsFrom (dotAt row) 0 width) f) row bytes (t .long) (λ f l. go f (decLt f width)))
+    sym (row-is (rowLength width) (λ f. ltb f width && lineDot (runsFrom (dotAt row) 0 width) f) row bytes (t .long) (λ f l. go f (decLt f width)))
   where
-    go : (f : ℕ) → Dec (f < width) → dotAt row f ≡ (ltb f width && dotIn (runsFrom (dotAt row) 0 width) f)
+    go : (f : ℕ) → Dec (f < width) → dotAt row f ≡ (ltb f width && lineDot (runsFrom (dotAt row) 0 width) f)
     go f (yes h) = rw (lt-ltb f width h) (sym (runs-dot (dotAt row) 0 width f h ∙ ap (dotAt row) (omega arith)))
     go f (no h) = rw (le-ltb f width (omega arith)) (spare-is row width .holds (t .clear) f (omega arith))
 

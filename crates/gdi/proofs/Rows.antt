@@ -16,53 +16,53 @@ use Rattle.row.proofs.Runs.{run-end-le, run-end-past, run-like, run-differs}
 use Rattle.gdi.specs.Commands.{Command, run, dotsOf, blackBit, command}
 use Rattle.gdi.specs.Groups.{admitted, block, fits, group}
 use Rattle.gdi.specs.Pages.{toCommand, next}
-use Rattle.gdi.specs.Lines.{dotIn}
-use Rattle.gdi.specs.Rows.{withDot, runsFrom, runs, longestRun, commandBytes, blocks, blockBytes}
+use Rattle.gdi.specs.Lines.{lineDot}
+use Rattle.gdi.specs.Rows.{addDot, runsFrom, runs, longestRun, commandBytes, blocks, blockBytes}
 use Rattle.gdi.specs.ReadingBack.{All, none, more}
 use Rattle.gdi.proofs.Groups.{admitted-is}
 
 -- ---- a dot in front of runs
 
 -- it belongs to a run of its colour
-withDot-same : (v : Bool) (n : ℕ) (rs : List Command) → withDot v (run v n ∷ rs) ≡ run v (suc n) ∷ rs
-withDot-same true n rs = refl
-withDot-same false n rs = refl
+addDot-same : (v : Bool) (n : ℕ) (rs : List Command) → addDot v (run v n ∷ rs) ≡ run v (suc n) ∷ rs
+addDot-same true n rs = refl
+addDot-same false n rs = refl
 
 -- before a dot of the other colour it is a run of its own
-withDot-other : (v u : Bool) (rs : List Command) → (u ≡ v → ⊥) → withDot v (withDot u rs) ≡ run v 1 ∷ withDot u rs
-withDot-other true true rs n = absurd (n refl)
-withDot-other false false rs n = absurd (n refl)
-withDot-other true false [] n = refl
-withDot-other false true [] n = refl
-withDot-other true false (run true k ∷ rs) n = refl
-withDot-other true false (run false k ∷ rs) n = refl
-withDot-other false true (run true k ∷ rs) n = refl
-withDot-other false true (run false k ∷ rs) n = refl
+addDot-other : (v u : Bool) (rs : List Command) → (u ≡ v → ⊥) → addDot v (addDot u rs) ≡ run v 1 ∷ addDot u rs
+addDot-other true true rs n = absurd (n refl)
+addDot-other false false rs n = absurd (n refl)
+addDot-other true false [] n = refl
+addDot-other false true [] n = refl
+addDot-other true false (run true k ∷ rs) n = refl
+addDot-other true false (run false k ∷ rs) n = refl
+addDot-other false true (run true k ∷ rs) n = refl
+addDot-other false true (run false k ∷ rs) n = refl
 
 -- its dots are that dot, and then those of the runs
-dot-first : (v : Bool) (rs : List Command) → dotIn (withDot v rs) 0 ≡ v
-unfolding dotIn
+dot-first : (v : Bool) (rs : List Command) → lineDot (addDot v rs) 0 ≡ v
+unfolding lineDot
 dot-first v [] = refl
 dot-first true (run true n ∷ rs) = rw (lt-ltb 0 (suc n) (omega arith)) refl
 dot-first false (run false n ∷ rs) = rw (lt-ltb 0 (suc n) (omega arith)) refl
 dot-first true (run false n ∷ rs) = refl
 dot-first false (run true n ∷ rs) = refl
 
-dot-next : (v : Bool) (rs : List Command) (g : ℕ) → dotIn (withDot v rs) (suc g) ≡ dotIn rs g
-unfolding dotIn
+dot-next : (v : Bool) (rs : List Command) (g : ℕ) → lineDot (addDot v rs) (suc g) ≡ lineDot rs g
+unfolding lineDot
 dot-next v [] g = rw (le-ltb (suc g) 1 (omega arith)) refl
 dot-next v (run black n ∷ rs) g = go (Bool·beq v black)
   where
-    go : (t : Bool) → dotIn (cond t (run black (suc n) ∷ rs) (run v 1 ∷ run black n ∷ rs)) (suc g) ≡ cond (ltb g n) black (dotIn rs (g - n))
+    go : (t : Bool) → lineDot (cond t (run black (suc n) ∷ rs) (run v 1 ∷ run black n ∷ rs)) (suc g) ≡ cond (ltb g n) black (lineDot rs (g - n))
     go true =
         let z : suc g - suc n ≡ g - n = omega arith in
-        ap₂ (λ (t : Bool) (i : ℕ). cond t black (dotIn rs i)) (is-same (ltb (suc g) (suc n)) (ltb g n) (ltb-is (suc g) (suc n)) (ltb-is g n) (λ h. omega arith) (λ h. omega arith)) z
+        ap₂ (λ (t : Bool) (i : ℕ). cond t black (lineDot rs i)) (is-same (ltb (suc g) (suc n)) (ltb g n) (ltb-is (suc g) (suc n)) (ltb-is g n) (λ h. omega arith) (λ h. omega arith)) z
     go false =
         let z : suc g - 1 ≡ g = omega arith in
         rw (le-ltb (suc g) 1 (omega arith), z) refl
 
 -- the runs of dots have those dots
-pub runs-dot : (d : ℕ → Bool) (f n g : ℕ) → g < n → dotIn (runsFrom d f n) g ≡ d (f + g)
+pub runs-dot : (d : ℕ → Bool) (f n g : ℕ) → g < n → lineDot (runsFrom d f n) g ≡ d (f + g)
 unfolding runsFrom
 runs-dot d f zero g h = absurd (omega arith)
 runs-dot d f (suc n) zero h = dot-first (d f) (runsFrom d (suc f) n) ∙ ap d (omega arith)
@@ -72,9 +72,9 @@ runs-dot d f (suc n) (suc g) h = dot-next (d f) (runsFrom d (suc f) n) g ∙ run
 abbrev pub Some : Command → Type 0
 Some c = 1 ≤ dotsOf c
 
-some-withDot : (v : Bool) (rs : List Command) → All Some rs → All Some (withDot v rs)
-some-withDot v [] none = more {x = run v 1} (omega arith) none
-some-withDot v (run black n ∷ rs) (more h hs) = go (Bool·beq v black)
+some-addDot : (v : Bool) (rs : List Command) → All Some rs → All Some (addDot v rs)
+some-addDot v [] none = more {x = run v 1} (omega arith) none
+some-addDot v (run black n ∷ rs) (more h hs) = go (Bool·beq v black)
   where
     go : (t : Bool) → All Some (cond t (run black (suc n) ∷ rs) (run v 1 ∷ run black n ∷ rs))
     go true = more {x = run black (suc n)} (omega arith) hs
@@ -83,15 +83,15 @@ some-withDot v (run black n ∷ rs) (more h hs) = go (Bool·beq v black)
 pub runs-some : (d : ℕ → Bool) (f n : ℕ) → All Some (runsFrom d f n)
 unfolding runsFrom
 runs-some d f zero = none
-runs-some d f (suc n) = some-withDot (d f) (runsFrom d (suc f) n) (runs-some d (suc f) n)
+runs-some d f (suc n) = some-addDot (d f) (runsFrom d (suc f) n) (runs-some d (suc f) n)
 
 -- ---- the first run
 
 -- a run's last dot
-run-last : (d : ℕ → Bool) (v : Bool) (e m : ℕ) → (0 < m → d e ≡ v → ⊥) → withDot v (runsFrom d e m) ≡ run v 1 ∷ runsFrom d e m
+run-last : (d : ℕ → Bool) (v : Bool) (e m : ℕ) → (0 < m → d e ≡ v → ⊥) → addDot v (runsFrom d e m) ≡ run v 1 ∷ runsFrom d e m
 unfolding runsFrom
 run-last d v e zero n = refl
-run-last d v e (suc m) n = withDot-other v (d e) (runsFrom d (suc e) m) (n (omega arith))
+run-last d v e (suc m) n = addDot-other v (d e) (runsFrom d (suc e) m) (n (omega arith))
 
 -- k + 1 dots from f on have one colour, and the dot after them, at e, has the other or is not there
 run-of : (d : ℕ → Bool) (v : Bool) (k m n f e : ℕ) → n ≡ suc k + m → e ≡ f + suc k → ((g : ℕ) → f ≤ g → g < e → d g ≡ v) → (0 < m → d e ≡ v → ⊥)
@@ -101,11 +101,11 @@ run-of d v k m zero f e a b like differs = absurd (omega arith)
 run-of d v zero m (suc n) f e a b like differs =
     let x : suc f ≡ e = omega arith in
     let y : n ≡ m = omega arith in
-    ap₂ withDot (like f (omega arith) (omega arith)) (ap₂ (runsFrom d) x y) ∙ run-last d v e m differs
+    ap₂ addDot (like f (omega arith) (omega arith)) (ap₂ (runsFrom d) x y) ∙ run-last d v e m differs
 run-of d v (suc k) m (suc n) f e a b like differs =
-    ap₂ withDot (like f (omega arith) (omega arith))
+    ap₂ addDot (like f (omega arith) (omega arith))
     (run-of d v k m n (suc f) e (omega arith) (omega arith) (λ g h l. like g (omega arith) l) differs)
-    ∙ withDot-same v (suc k) (runsFrom d e m)
+    ∙ addDot-same v (suc k) (runsFrom d e m)
 
 -- the first run ends where the row's run of dot f ends
 pub runs-first : (d : ℕ → Bool) (f width : ℕ) → f < width
@@ -129,10 +129,10 @@ unfoldable pub dotSum : List Command → ℕ
 dotSum [] = 0
 dotSum (c ∷ cs) = dotsOf c + dotSum cs
 
-sum-withDot : (v : Bool) (rs : List Command) → dotSum (withDot v rs) ≡ suc (dotSum rs)
+sum-addDot : (v : Bool) (rs : List Command) → dotSum (addDot v rs) ≡ suc (dotSum rs)
 unfolding dotSum
-sum-withDot v [] = refl
-sum-withDot v (run black n ∷ rs) = go (Bool·beq v black)
+sum-addDot v [] = refl
+sum-addDot v (run black n ∷ rs) = go (Bool·beq v black)
   where
     go : (t : Bool) → dotSum (cond t (run black (suc n) ∷ rs) (run v 1 ∷ run black n ∷ rs)) ≡ suc (n + dotSum rs)
     go true = omega arith
@@ -142,7 +142,7 @@ sum-withDot v (run black n ∷ rs) = go (Bool·beq v black)
 pub runs-sum : (d : ℕ → Bool) (f n : ℕ) → dotSum (runsFrom d f n) ≡ n
 unfolding runsFrom dotSum
 runs-sum d f zero = refl
-runs-sum d f (suc n) = sum-withDot (d f) (runsFrom d (suc f) n) ∙ ap suc (runs-sum d (suc f) n)
+runs-sum d f (suc n) = sum-addDot (d f) (runsFrom d (suc f) n) ∙ ap suc (runs-sum d (suc f) n)
 
 longest-le : (rs : List Command) → longestRun rs ≤ dotSum rs
 unfolding longestRun dotSum

@@ -1,10 +1,12 @@
 -- Groups of bytes: the head of a job, and what may stand where no command stands. A form is written down as a list of bytes with `any` in it.
 use mathlib.Core.Path.{_≡_}
 use mathlib.Core.Bool.{Bool, true, false, cond, _&&_, _||_}
-use mathlib.Core.List.{List, [], _∷_, _++_}
-use Prim.Native.Nat.{ℕ, _+_, _*_, suc}
+use mathlib.Core.List.{List, [], _∷_, _++_, map}
+use Prim.Native.Nat.{ℕ, zero, suc, _+_, _*_}
+use Prim.Native.Char.{code}
+use Prim.Native.String.{String, charAt}
 use lib.Dec.{eqb, leb, ltb}
-use lib.ListN.{length, getD, take}
+use lib.ListN.{length, getD, set, take, drop}
 
 -- ---- forms
 
@@ -18,14 +20,16 @@ fits [] bs = true
 fits (x ∷ form) [] = false
 fits (x ∷ form) (b ∷ bs) = (eqb x any || eqb b x) && fits form bs
 
--- the head, 86 bytes: `) SAG-GDI RL;0;0;Comment Copyright Sagem Communication 2005. Version 1.0.0.0` in ASCII, 0D 0A, and eight more
+-- the ASCII codes of n characters of a text, from its character i on
+unfoldable pub codes : String → (i n : ℕ) → List ℕ
+codes text i zero = []
+codes text i (suc n) = code (charAt text i) ∷ codes text (suc i) n
+
+-- the head, 86 bytes: 76 characters, 0D 0A, 10 00 02 00 00 00 00 00
 unfoldable pub headBytes : List ℕ
 headBytes =
-    0x29 ∷ 0x20 ∷ 0x53 ∷ 0x41 ∷ 0x47 ∷ 0x2D ∷ 0x47 ∷ 0x44 ∷ 0x49 ∷ 0x20 ∷ 0x52 ∷ 0x4C ∷ 0x3B ∷ 0x30 ∷ 0x3B ∷ 0x30 ∷ 0x3B ∷ 0x43 ∷ 0x6F ∷ 0x6D ∷ 0x6D
-    ∷ 0x65 ∷ 0x6E ∷ 0x74 ∷ 0x20 ∷ 0x43 ∷ 0x6F ∷ 0x70 ∷ 0x79 ∷ 0x72 ∷ 0x69 ∷ 0x67 ∷ 0x68 ∷ 0x74 ∷ 0x20 ∷ 0x53 ∷ 0x61 ∷ 0x67 ∷ 0x65 ∷ 0x6D ∷ 0x20 ∷ 0x43
-    ∷ 0x6F ∷ 0x6D ∷ 0x6D ∷ 0x75 ∷ 0x6E ∷ 0x69 ∷ 0x63 ∷ 0x61 ∷ 0x74 ∷ 0x69 ∷ 0x6F ∷ 0x6E ∷ 0x20 ∷ 0x32 ∷ 0x30 ∷ 0x30 ∷ 0x35 ∷ 0x2E ∷ 0x20 ∷ 0x56 ∷ 0x65
-    ∷ 0x72 ∷ 0x73 ∷ 0x69 ∷ 0x6F ∷ 0x6E ∷ 0x20 ∷ 0x31 ∷ 0x2E ∷ 0x30 ∷ 0x2E ∷ 0x30 ∷ 0x2E ∷ 0x30
-    ∷ 0x0D ∷ 0x0A ∷ 0x10 ∷ 0x00 ∷ 0x02 ∷ 0x00 ∷ 0x00 ∷ 0x00 ∷ 0x00 ∷ 0x00 ∷ []
+    codes ") SAG-GDI RL;0;0;Comment Copyright Sagem Communication 2005. Version 1.0.0.0" 0 76
+    ++ (0x0D ∷ 0x0A ∷ 0x10 ∷ 0x00 ∷ 0x02 ∷ 0x00 ∷ 0x00 ∷ 0x00 ∷ 0x00 ∷ 0x00 ∷ [])
 
 -- a page head is known by its first two bytes
 abbrev pub pageStart : List ℕ
@@ -106,7 +110,17 @@ pageBack toner = 0x00 ∷ 0x00 ∷ 0x01 ∷ 0x00 ∷ toner ∷ []
 
 pub record GroupCases : Type 0 where
   pub head-length : length headBytes ≡ 86
+  pub head-first : take 3 headBytes ≡ 0x29 ∷ 0x20 ∷ 0x53 ∷ []
+  pub head-text-end : take 4 (drop 73 headBytes) ≡ 0x30 ∷ 0x2E ∷ 0x30 ∷ 0x0D ∷ []
+  pub head-last : drop 76 headBytes ≡ 0x0D ∷ 0x0A ∷ 0x10 ∷ 0x00 ∷ 0x02 ∷ 0x00 ∷ 0x00 ∷ 0x00 ∷ 0x00 ∷ 0x00 ∷ []
+  pub form-longer : fits (0x01 ∷ 0x02 ∷ []) (0x01 ∷ []) ≡ false
   pub page : group examplePage ≡ pageHead 3 2
+  -- another byte in each of the fixed places, and in each of the free ones
+  pub page-fixed : map (λ i. group (set examplePage i 0x55)) (2 ∷ 3 ∷ 8 ∷ 9 ∷ 10 ∷ 11 ∷ 19 ∷ [])
+      ≡ wrongPageHead ∷ wrongPageHead ∷ wrongPageHead ∷ wrongPageHead ∷ wrongPageHead ∷ wrongPageHead ∷ wrongPageHead ∷ []
+  pub page-free : map (λ i. group (set examplePage i 0x55)) (4 ∷ 5 ∷ 6 ∷ 7 ∷ 16 ∷ 17 ∷ 18 ∷ [])
+      ≡ pageHead 3 2 ∷ pageHead 3 2 ∷ pageHead 3 2 ∷ pageHead 3 2 ∷ pageHead 3 2 ∷ pageHead 3 2 ∷ pageHead 3 2 ∷ []
+  pub least-page : group (pageFront ++ (0x01 ∷ 0x00 ∷ 0x01 ∷ 0x00 ∷ []) ++ pageBack 1) ≡ pageHead 1 1
   pub low-byte-first : group (pageFront ++ (0x9A ∷ 0x12 ∷ 0x7A ∷ 0x1A ∷ []) ++ pageBack 0) ≡ pageHead 4762 6778
   pub largest-page : group (pageFront ++ (0xFF ∷ 0x3F ∷ 0xFF ∷ 0xFF ∷ []) ++ pageBack 0) ≡ pageHead 16383 65535
   pub width-over : group (pageFront ++ (0x00 ∷ 0x40 ∷ 0x01 ∷ 0x00 ∷ []) ++ pageBack 0) ≡ wrongPageHead
@@ -118,13 +132,15 @@ pub record GroupCases : Type 0 where
   pub page-cut-first : group (0x11 ∷ 0x00 ∷ 0xFF ∷ 0xFF ∷ 0xFF ∷ 0xFF ∷ []) ≡ cut
   pub other-second-byte : group (0x11 ∷ 0x01 ∷ 0x0F ∷ 0x00 ∷ 0x00 ∷ 0x00 ∷ []) ≡ unknown
   pub a-block : group (0x12 ∷ 0x00 ∷ 0x6A ∷ 0x01 ∷ 0x00 ∷ 0x00 ∷ 0x41 ∷ []) ≡ block 0x016A
-  pub not-a-block : group (0x12 ∷ 0x00 ∷ 0x6A ∷ 0x00 ∷ 0x01 ∷ 0x00 ∷ []) ≡ unknown
+  pub not-a-block : map (λ i. group (set (0x12 ∷ 0x00 ∷ 0x6A ∷ 0x00 ∷ 0x00 ∷ 0x00 ∷ []) i 0x01)) (0 ∷ 1 ∷ 4 ∷ 5 ∷ [])
+      ≡ unknown ∷ unknown ∷ unknown ∷ unknown ∷ []
   pub an-end : group (pageEndBytes ++ (0x99 ∷ [])) ≡ pageEnd
-  pub not-an-end : group (0x13 ∷ 0x00 ∷ 0x00 ∷ 0x00 ∷ 0x00 ∷ 0x01 ∷ []) ≡ unknown
+  pub not-an-end : map (λ i. group (set pageEndBytes i 0x01)) (1 ∷ 2 ∷ 3 ∷ 4 ∷ 5 ∷ []) ≡ unknown ∷ unknown ∷ unknown ∷ unknown ∷ unknown ∷ []
   pub last-end : group documentEndBytes ≡ documentEnd
+  pub not-the-last-end : map (λ i. group (set documentEndBytes i 0x01)) (1 ∷ 2 ∷ 3 ∷ 4 ∷ 5 ∷ []) ≡ unknown ∷ unknown ∷ unknown ∷ unknown ∷ unknown ∷ []
   pub five-bytes : group (0x13 ∷ 0x00 ∷ 0x00 ∷ 0x00 ∷ 0x00 ∷ []) ≡ cut
   pub no-bytes : group [] ≡ cut
 
 pub group-cases : GroupCases
-unfolding fits headBytes admitted fields group
+unfolding fits codes headBytes admitted fields group
 group-cases = search

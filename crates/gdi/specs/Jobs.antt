@@ -1,13 +1,13 @@
 -- The job check: a walk over the job, a step at a time over a small state. A job is its head, any number of pages, and the document end; a page
 -- is its page head, blocks, and the page end.
-use mathlib.Core.Path.{_≡_}
+use mathlib.Core.Path.{_≡_, refl}
 use mathlib.Core.Bool.{Bool, true, false, cond}
 use mathlib.Core.List.{List, [], _∷_, _++_}
 use Prim.Native.Nat.{ℕ, zero, suc, _+_, _-_}
 use lib.Dec.{eqb, leb, ltb}
 use lib.ListN.{length, take}
 use Rattle.gdi.specs.Commands.{Command, run, dotsOf, command}
-use Rattle.gdi.specs.Groups.{Group, cut, pageHead, wrongPageHead, block, pageEnd, documentEnd, unknown, fits, headBytes, admitted, fields, group, examplePage, pageEndBytes, documentEndBytes}
+use Rattle.gdi.specs.Groups.{Group, cut, pageHead, wrongPageHead, block, pageEnd, documentEnd, unknown, fits, codes, headBytes, admitted, fields, group, examplePage, pageEndBytes, documentEndBytes}
 use Rattle.gdi.specs.Pages.{Next, toBlock, toEnd, toCommand, fault, next}
 
 -- a job has at most so many bytes
@@ -134,7 +134,14 @@ pub record JobCases : Type 0 where
   pub second-past-job : inside (blockOf 2 ++ (0x80 ∷ [])) ≡ refused 24 114
   pub page-in-page : inside examplePage ≡ refused 23 107
   pub cut-page-in-page : inside (take 20 examplePage) ≡ refused 24 127
+  pub limit : ltb longest 16777216 ≡ false
+  pub over-limit : ltb longest 16777217 ≡ true
 
 pub job-cases : JobCases
-unfolding jobAnswer walkHead walk step next command group fits headBytes admitted fields
+unfolding jobAnswer walkHead walk step next command group fits codes headBytes admitted fields
 job-cases = search
+
+-- a job over the limit, whatever it holds
+pub too-long : (job : List ℕ) → ltb longest (length job) ≡ true → jobAnswer job ≡ refused 1 0
+unfolding jobAnswer
+too-long job e = rw e refl

@@ -1,6 +1,6 @@
 -- The line reader: the commands of one line, and the row that they give. A line takes commands until their sum reaches the width; the last is
 -- cropped.
-use mathlib.Core.Path.{_≡_}
+use mathlib.Core.Path.{_≡_, refl}
 use mathlib.Core.Bool.{Bool, true, false, not, cond, _&&_}
 use mathlib.Core.List.{List, [], _∷_, _++_}
 use Prim.Native.Nat.{ℕ, zero, suc, _+_, _-_, _/_}
@@ -15,9 +15,9 @@ use Rattle.gdi.specs.Jobs.{longest, blockOf}
 -- ---- the row
 
 -- the dot f of commands one after another: that of the command in which it falls, black being 1; 0 past the last
-unfoldable pub dotIn : List Command → ℕ → Bool
-dotIn [] f = false
-dotIn (run black n ∷ cs) f = cond (ltb f n) black (dotIn cs (f - n))
+unfoldable pub lineDot : List Command → ℕ → Bool
+lineDot [] f = false
+lineDot (run black n ∷ cs) f = cond (ltb f n) black (lineDot cs (f - n))
 
 -- a row has width / 8 bytes, rounded up
 unfoldable pub rowLength : ℕ → ℕ
@@ -25,7 +25,7 @@ rowLength width = (width + 7) / 8
 
 -- the row of a line: cropped at the width, spare bits 0
 unfoldable pub lineRow : ℕ → List Command → List ℕ
-lineRow width cs = rowOf (rowLength width) (λ f. ltb f width && dotIn cs f)
+lineRow width cs = rowOf (rowLength width) (λ f. ltb f width && lineDot cs f)
 
 -- ---- the commands
 
@@ -100,6 +100,7 @@ pub record LineCases : Type 0 where
   pub as-wide-as-a-byte : lineRow 8 (run true 99 ∷ []) ≡ 0xFF ∷ []
   pub a-byte-more : lineRow 9 (run true 99 ∷ []) ≡ 0xFF ∷ 0x80 ∷ []
   pub one-line : lineAt (0x41 ∷ 0x02 ∷ 0x7F ∷ 0x03 ∷ []) 0 9 5 1 ≡ line (run true 1 ∷ run false 2 ∷ run true 63 ∷ []) 3 6
+  pub three-commands : lineAt (0x41 ∷ 0x01 ∷ 0x41 ∷ 0x3F ∷ []) 0 9 3 1 ≡ line (run true 1 ∷ run false 1 ∷ run true 1 ∷ []) 3 6
   -- a block head, a line that just reaches the width, and no look at what comes after it
   pub from-gap : lineAt (blockOf 1 ++ (0x43 ∷ [])) 0 0 3 1 ≡ line (run true 3 ∷ []) 7 0
   pub over-blocks : lineAt (0x02 ∷ (blockOf 0 ++ blockOf 4 ++ (0x41 ∷ []))) 0 1 3 1 ≡ line (run false 2 ∷ run true 1 ∷ []) 14 3
@@ -121,7 +122,15 @@ pub record LineCases : Type 0 where
   pub row-written : rowAfter 3 (line (run true 63 ∷ []) 7 0) (0xEE ∷ []) ≡ 0xE0 ∷ []
   pub row-stays : rowAfter 3 (refused 24 7) (0xEE ∷ []) ≡ 0xEE ∷ []
   pub row-stays-too : rowAfter 3 (pageEnd 12) (0xEE ∷ []) ≡ 0xEE ∷ []
+  pub answer-line : answerOf (line [] 7 2) ≡ nextLine 7 2
+  pub answer-page-end : answerOf (pageEnd 12) ≡ afterPage 12 0
+  pub answer-refused : answerOf (refused 24 7) ≡ refusal 24 7
 
 pub line-cases : LineCases
-unfolding lineAt lineFrom rowAfter lineRow rowLength dotIn byteOf rowOf next command group fits admitted fields
+unfolding lineAt lineFrom rowAfter lineRow rowLength lineDot byteOf rowOf next command group fits admitted fields
 line-cases = search
+
+-- a job over the limit, whatever it holds and whatever the place
+pub too-long : (job : List ℕ) (offset left : ℕ) → ltb longest (length job) ≡ true → lineAt job offset left 3 1 ≡ refused 1 0
+unfolding lineAt rowLength admitted
+too-long job offset left e = rw e refl

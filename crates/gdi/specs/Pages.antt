@@ -4,7 +4,7 @@ use mathlib.Core.Path.{_≡_}
 use mathlib.Core.Bool.{Bool, true, false, cond}
 use mathlib.Core.List.{List, [], _∷_, _++_}
 use Prim.Native.Nat.{ℕ, zero, suc}
-use lib.ListN.{length, take}
+use lib.ListN.{length, set, take}
 use Rattle.gdi.specs.Commands.{Command, run, Taken, taken, broken, command}
 use Rattle.gdi.specs.Groups.{Group, cut, pageHead, wrongPageHead, block, pageEnd, documentEnd, unknown, fits, admitted, fields, group, examplePage, pageEndBytes, documentEndBytes}
 
@@ -49,6 +49,7 @@ pub record NextCases : Type 0 where
   pub early-end : next false false 0 pageEndBytes ≡ fault 25 0
   pub cut-end : next false false 0 (take 5 pageEndBytes) ≡ fault 24 5
   pub page-in-page : next true true 0 examplePage ≡ fault 23 0
+  pub wrong-page-in-page : next true true 0 (set examplePage 2 0x0E) ≡ fault 23 0
   pub cut-page-in-page : next true true 0 (take 20 examplePage) ≡ fault 24 20
   pub document-end-in-page : next true true 0 documentEndBytes ≡ fault 23 0
   pub other-bytes : next true true 0 (0xFF ∷ 0xFF ∷ 0xFF ∷ 0xFF ∷ 0xFF ∷ 0xFF ∷ []) ≡ fault 23 0

@@ -1,15 +1,18 @@
 -- Reading back: two statements about what is written. A row written as a line is read back as that row; and a job that is written whole is a job,
 -- whose lines are the rows of its pages.
-use mathlib.Core.Path.{_≡_}
+use mathlib.Core.Path.{_≡_, refl}
 use mathlib.Core.List.{List, [], _∷_, _++_, map}
-use Prim.Native.Nat.{ℕ, _+_, _<_, _≤_}
+use Prim.Native.Nat.{ℕ, zero, suc, _+_, _<_, _≤_}
+use lib.Dec.{lit<}
 use lib.ListN.{length, getD}
+use Rattle.row.specs.Dots.{dotIn, dotAt}
+use Rattle.row.specs.Spare.{clearFrom, spareClear}
 use Rattle.row.specs.Counts.{joined}
-use Rattle.gdi.specs.Groups.{headBytes, pageEndBytes, documentEndBytes}
-use Rattle.gdi.specs.Jobs.{longest, jobAnswer, pages}
+use Rattle.gdi.specs.Groups.{headBytes, pageEndBytes, documentEndBytes, admitted, fields, examplePage}
+use Rattle.gdi.specs.Jobs.{longest, jobAnswer, pages, blockOf}
 use Rattle.gdi.specs.Lines.{rowLength, lineAt, rowAfter, LineAnswer, nextLine, afterPage, answerOf}
-use Rattle.gdi.specs.Rows.{rowBytes}
-use Rattle.gdi.specs.Writers.{writes, PageHead, pageHeadBytes, pageHeadWriting, rowWriting}
+use Rattle.gdi.specs.Rows.{runsFrom, runs, longestRun, commandBytes, blocks, blockBytes, rowBytes}
+use Rattle.gdi.specs.Writers.{writes, PageHead, pageHeadBytes, pageHeadWriting, rowWriting, exampleHead}
 
 -- ---- a row
 
@@ -81,3 +84,33 @@ pub record WrittenJob : Type 0 where
       length job ≤ longest
       → ReadsRows job width start 0 (p .rows) end 0
       × (answerOf (lineAt job end 0 width (rowLength width)) ≡ afterPage (end + 6) 0)
+
+-- ---- the premises are met
+
+-- a page of two rows, black and white, for the page head that the worked cases of the writers have
+abbrev twoRows : Page
+twoRows = record { head = exampleHead; rows = (0xE0 ∷ []) ∷ (0x00 ∷ []) ∷ [] }
+
+black-byte : (i : ℕ) → getD (0xE0 ∷ []) i 0 < 256
+black-byte zero = lit< tt
+black-byte (suc i) = lit< tt
+
+white-byte : (i : ℕ) → getD (0x00 ∷ []) i 0 < 256
+white-byte zero = lit< tt
+white-byte (suc i) = lit< tt
+
+pub record BackCases : Type 0 where
+  pub a-page : TakesPage twoRows
+  pub a-job : jobBytes (twoRows ∷ []) ≡ headBytes ++ (examplePage ++ (blockOf 1 ++ (0x43 ∷ []) ++ blockOf 1 ++ (0x03 ∷ []) ++ pageEndBytes) ++ documentEndBytes)
+
+pub back-cases : BackCases
+unfolding jobBytes pageBytes rowsBytes joined pageHeadBytes pageHeadWriting rowWriting rowLength runs runsFrom longestRun commandBytes blocks blockBytes rowBytes admitted fields spareClear clearFrom dotAt dotIn
+back-cases =
+    record {
+      a-page = record {
+        head-written = refl;
+        height = refl;
+        rows-written = more (record { bytes = black-byte; written = refl }) (more (record { bytes = white-byte; written = refl }) none);
+      };
+      a-job = refl;
+    }

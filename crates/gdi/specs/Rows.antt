@@ -13,14 +13,14 @@ use Rattle.gdi.specs.Commands.{Command, run}
 -- ---- the runs of a row
 
 -- a dot in front of runs: it belongs to the first where it has its colour, else it is a run of its own
-abbrev pub withDot : Bool → List Command → List Command
-withDot v [] = run v 1 ∷ []
-withDot v (run black n ∷ rs) = cond (Bool·beq v black) (run black (suc n) ∷ rs) (run v 1 ∷ run black n ∷ rs)
+abbrev pub addDot : Bool → List Command → List Command
+addDot v [] = run v 1 ∷ []
+addDot v (run black n ∷ rs) = cond (Bool·beq v black) (run black (suc n) ∷ rs) (run v 1 ∷ run black n ∷ rs)
 
 -- the longest runs of a colour in the n dots from f on
 unfoldable pub runsFrom : (ℕ → Bool) → (f n : ℕ) → List Command
 runsFrom d f zero = []
-runsFrom d f (suc n) = withDot (d f) (runsFrom d (suc f) n)
+runsFrom d f (suc n) = addDot (d f) (runsFrom d (suc f) n)
 
 -- of a row: it starts with the colour of dot 0
 unfoldable pub runs : (width : ℕ) (row : List ℕ) → List Command
@@ -73,6 +73,7 @@ pub record RowCases : Type 0 where
   pub black-1649 : commandBytes (run true 1649) ≡ 0xF1 ∷ 0x19 ∷ []
   pub most : commandBytes (run true 16383) ≡ 0xFF ∷ 0xFF ∷ []
   pub a-row : rowBytes 3 (0xE0 ∷ []) ≡ 0x12 ∷ 0x00 ∷ 0x01 ∷ 0x00 ∷ 0x00 ∷ 0x00 ∷ 0x43 ∷ []
+  pub in-order : blocks [] (run true 1 ∷ run false 2 ∷ []) ≡ (0x41 ∷ 0x02 ∷ []) ∷ []
   pub full-block : map length (blocks [] (turns 255)) ≡ 255 ∷ []
   pub next-block : map length (blocks [] (turns 256)) ≡ 255 ∷ 1 ∷ []
   -- a command of two bytes lies whole in its block
@@ -94,6 +95,7 @@ row-cases =
       black-1649 = refl;
       most = refl;
       a-row = refl;
+      in-order = refl;
       full-block = refl;
       next-block = refl;
       not-cut = refl;

@@ -10,7 +10,7 @@ use Rattle.row.specs.Dots.{dotAt}
 use Rattle.row.specs.Spare.{clearFrom, spareClear}
 use Rattle.row.specs.Counts.{joined}
 use Rattle.gdi.specs.Commands.{Command, run}
-use Rattle.gdi.specs.Groups.{headBytes, pageEndBytes, documentEndBytes, admitted, fields, examplePage}
+use Rattle.gdi.specs.Groups.{codes, headBytes, pageEndBytes, documentEndBytes, admitted, fields, examplePage}
 use Rattle.gdi.specs.Lines.{rowLength}
 use Rattle.gdi.specs.Rows.{runsFrom, runs, longestRun, commandBytes, blocks, blockBytes, rowBytes}
 
@@ -131,9 +131,10 @@ pub record WriterCases : Type 0 where
   pub narrow : linefillOf 30 ≡ 0x9E00
   pub widest : linefillOf 16383 ≡ 0xBFFF
   pub count : answerOf (writes (7 ∷ 8 ∷ [])) ≡ wrote 2
+  pub refusal : answerOf (refuses 27 0) ≡ refused 27 0
   pub beyond : outputAfter (writes (7 ∷ 8 ∷ [])) (1 ∷ 2 ∷ 3 ∷ 4 ∷ []) ≡ 7 ∷ 8 ∷ 3 ∷ 4 ∷ []
   pub stays : outputAfter (refuses 27 0) (1 ∷ 2 ∷ []) ≡ 1 ∷ 2 ∷ []
 
 pub writer-cases : WriterCases
-unfolding headWriting pageEndWriting documentEndWriting pageHeadWriting pageHeadBytes rowWriting linefillOf rowLength runs runsFrom longestRun commandBytes blocks blockBytes rowBytes joined headBytes admitted fields spareClear clearFrom dotAt dots.dotIn
+unfolding headWriting pageEndWriting documentEndWriting pageHeadWriting pageHeadBytes rowWriting linefillOf rowLength runs runsFrom longestRun commandBytes blocks blockBytes rowBytes joined codes headBytes admitted fields spareClear clearFrom dotAt dots.dotIn
 writer-cases = search

@@ -6,6 +6,7 @@ ghost use Rattle.gdi.specs.Jobs.{between, inPage, withSum, step, walk, jobAnswe
 ghost use Rattle.gdi_check.specs.Answers.{told, stateOf, stepOf};
 ghost use Rattle.gdi_check.specs.Functions.{Bounded};
 use gdi::HEAD;
+use gdi::LONGEST;
 use gdi_next::Group;
 use gdi_next::Next;
 use gdi_next::group_at;
@@ -39,9 +40,6 @@ enum Step {
     Done(usize),
     Stop(u8, usize),
 }
-
-// The most bytes of a job.
-const LONGEST: usize = 16777216;
 
 // A step between pages.
 fn step_between(job: &[u8], at: usize, pages: usize) -> Step

@@ -8,6 +8,7 @@ ghost use Rattle.gdi.specs.Commands.{command};
 ghost use Rattle.gdi.specs.Groups.{any, fits, numberAt, fields, pageHeadIn, group};
 ghost use Rattle.gdi.specs.Pages.{inGap, ofCommand, next};
 ghost use Rattle.gdi_next.specs.Answers.{groupOf, nextOf};
+use gdi::WIDEST;
 
 // What stands where a group may stand.
 pub enum Group {
@@ -106,7 +107,7 @@ pub fn may_hold(width: usize, height: usize, toner: u8) -> bool
     if width < 1 {
         return false;
     }
-    if width > 16383 {
+    if width > WIDEST {
         return false;
     }
     if height < 1 {

@@ -18,7 +18,7 @@ use Rattle.row.proofs.Stretches.{filled-in, filled-before}
 use Rattle.gdi.specs.Commands.{Command}
 use Rattle.gdi.specs.Groups.{admitted}
 use Rattle.gdi.specs.Jobs.{longest}
-use Rattle.gdi.specs.Lines.{Line, line, pageEnd, refused, dotIn, rowLength, lineRow, lineAt, rowAfter, LineAnswer, nextLine, refusal, answerOf}
+use Rattle.gdi.specs.Lines.{Line, line, pageEnd, refused, lineDot, rowLength, lineRow, lineAt, rowAfter, LineAnswer, nextLine, refusal, answerOf}
 use Rattle.gdi.proofs.Groups.{never, admitted-is}
 use Rattle.gdi_read.specs.Answers.{told}
 use Rattle.gdi_read.specs.declared.LineRead as code
@@ -95,19 +95,19 @@ module _ (width : ℕ) (l k : Line) (held row : List ℕ) (r : code.LineRead) (e
   unfolding rowAfter lineRow rowLength
   line-so q left a written row′ y second size z = (ap told (sym y) ∙ told-so, rw e (go k (second .dots refl) (ap told (sym y) ∙ first .answer)))
     where
-      clear : (cs : List Command) → ((f : ℕ) → f < width → dotAt written f ≡ dotIn cs f) → (f : ℕ) → Dec (f < width) → f < 8 * length written
-          → filled width (8 * length written) false (dotAt written) f ≡ (ltb f width && dotIn cs f)
+      clear : (cs : List Command) → ((f : ℕ) → f < width → dotAt written f ≡ lineDot cs f) → (f : ℕ) → Dec (f < width) → f < 8 * length written
+          → filled width (8 * length written) false (dotAt written) f ≡ (ltb f width && lineDot cs f)
       clear cs d f (yes h) m = filled-before width (8 * length written) false (dotAt written) f h ∙ d f h ∙ sym (rw (lt-ltb f width h) refl)
       clear cs d f (no h) m =
           let b : width ≤ f = omega arith in
           filled-in width (8 * length written) false (dotAt written) f b m ∙ sym (rw (le-ltb f width b) refl)
 
-      go : (k : Line) → ((cs : List Command) (p left : ℕ) → k ≡ line cs p left → (f : ℕ) → f < width → dotAt written f ≡ dotIn cs f)
+      go : (k : Line) → ((cs : List Command) (p left : ℕ) → k ≡ line cs p left → (f : ℕ) → f < width → dotAt written f ≡ lineDot cs f)
           → nextLine q left ≡ answerOf k → row′ ≡ rowAfter width k held
       go (line cs p left) d i =
           z
-          ∙ rowOf-same (length written) (filled width (8 * length written) false (dotAt written)) (λ f. ltb f width && dotIn cs f)
+          ∙ rowOf-same (length written) (filled width (8 * length written) false (dotAt written)) (λ f. ltb f width && lineDot cs f)
           (λ f m. clear cs (d cs p left refl) f (decLt f width) m)
-          ∙ ap (λ (n : ℕ). rowOf n (λ f. ltb f width && dotIn cs f)) size
+          ∙ ap (λ (n : ℕ). rowOf n (λ f. ltb f width && lineDot cs f)) size
       go (pageEnd p) d i = never (cc)
       go (refused number p) d i = never (cc)

@@ -15,7 +15,7 @@ use Rattle.row.proofs.Dots.{Bytes, bytes-drop, length-rowOf, dot-rowOf}
 use Rattle.row.proofs.Stretches.{filled-in, filled-before}
 use Rattle.gdi.specs.Commands.{Command, run}
 use Rattle.gdi.specs.Pages.{toCommand, next}
-use Rattle.gdi.specs.Lines.{Line, line, pageEnd, refused, dotIn, withCommand, lineFrom, nextLine, afterPage, refusal, answerOf}
+use Rattle.gdi.specs.Lines.{Line, line, pageEnd, refused, lineDot, withCommand, lineFrom, nextLine, afterPage, refusal, answerOf}
 use Rattle.gdi_next.specs.Answers.{nextOf}
 use Rattle.gdi_next.specs.declared.Next as code
 use Rattle.gdi_next.specs.declared.Next.the-variants.{ToBlock, ToEnd, ToCommand, Fault}
@@ -50,12 +50,12 @@ module _ (write : Bool) (from to : ℕ) (black : Bool) (row : List ℕ) where
 
 -- the dot f of a line: those below s are d's, and then come those of the commands
 abbrev dotFrom : (s : ℕ) (d : ℕ → Bool) → Line → ℕ → Bool
-dotFrom s d (line cs p left) f = cond (ltb f s) (d f) (dotIn cs (f - s))
+dotFrom s d (line cs p left) f = cond (ltb f s) (d f) (lineDot cs (f - s))
 dotFrom s d (pageEnd p) f = false
 dotFrom s d (refused number p) f = false
 
 -- from dot 0 on they are the commands'
-dots-first : (d : ℕ → Bool) (cs : List Command) (p left f : ℕ) → dotFrom 0 d (line cs p left) f ≡ dotIn cs f
+dots-first : (d : ℕ → Bool) (cs : List Command) (p left f : ℕ) → dotFrom 0 d (line cs p left) f ≡ lineDot cs f
 dots-first d cs p left f = let z : f - 0 ≡ f = omega arith in rw (le-ltb f 0 (omega arith), z) refl
 
 -- below s they are d's
@@ -65,7 +65,7 @@ dots-below s d cs p left f h = rw (lt-ltb f s h) refl
 -- a command's dots are filled, and it is passed
 dots-on : (s n : ℕ) (black : Bool) (d e : ℕ → Bool) (l : Line) (f : ℕ) → e f ≡ filled s (s + n) black d f
     → dotFrom s d (withCommand (run black n) l) f ≡ dotFrom (s + n) e l f
-unfolding dotIn
+unfolding lineDot
 dots-on s n black d e (pageEnd p) f h = refl
 dots-on s n black d e (refused number p) f h = refl
 dots-on s n black d e (line cs p left) f h = go (decLt f s) (decLt f (s + n))

@@ -7,7 +7,7 @@ use lib.ListN.{length}
 use Rattle.row.specs.Dots.{dotAt, rowOf}
 use Rattle.row.specs.Stretches.{filled}
 use Rattle.gdi.specs.Commands.{Command}
-use Rattle.gdi.specs.Lines.{Line, line, dotIn, LineAnswer, answerOf}
+use Rattle.gdi.specs.Lines.{Line, line, lineDot, LineAnswer, answerOf}
 
 -- a row with the dots from `from` up to, not including, `to` filled where it is to be written
 unfoldable pub put : (write : Bool) (from to : ℕ) (black : Bool) → List ℕ → List ℕ
@@ -18,4 +18,4 @@ put write from to black row = cond write (rowOf (length row) (filled from to bla
 pub record Passed (width : ℕ) (l : Line) (write : Bool) (held : List ℕ) (a : LineAnswer) (row : List ℕ) : Type 0 where
   pub answer : a ≡ answerOf l
   pub kept : write ≡ false → row ≡ held
-  pub dots : write ≡ true → (cs : List Command) (p left : ℕ) → l ≡ line cs p left → (f : ℕ) → f < width → dotAt row f ≡ dotIn cs f
+  pub dots : write ≡ true → (cs : List Command) (p left : ℕ) → l ≡ line cs p left → (f : ℕ) → f < width → dotAt row f ≡ lineDot cs f

@@ -6,6 +6,8 @@ ghost use lib.ListN.{length, drop};
 ghost use Rattle.gdi.specs.Lines.{lineFrom, lineAt, rowAfter, answerOf};
 ghost use Rattle.gdi_read.specs.Answers.{told};
 ghost use Rattle.gdi_read.specs.Functions.{put, Passed};
+use gdi::LONGEST;
+use gdi::WIDEST;
 use gdi_next::Next;
 use gdi_next::next_at;
 use row::fill;
@@ -16,9 +18,6 @@ pub enum LineRead {
     PageEnd(usize, usize),
     Refused(u8, usize),
 }
-
-// The most bytes of a job.
-const LONGEST: usize = 16777216;
 
 // Where `write` says so, gives the dots from `from` up to, not including, `to` the colour of a command.
 fn put_dots(row: &mut [u8], from: usize, to: usize, black: bool, write: bool)
@@ -77,7 +76,7 @@ pub fn read_line(job: &[u8], offset: usize, left: usize, width: usize, row: &mut
     if width < 1 {
         return LineRead::Refused(27, 0);
     }
-    if width > 16383 {
+    if width > WIDEST {
         return LineRead::Refused(27, 0);
     }
     if row.len() != (width + 7) / 8 {

@@ -11,6 +11,7 @@ ghost use Rattle.gdi.specs.Rows.{runs, longestRun, commandBytes, rowBytes};
 ghost use Rattle.gdi.specs.Writers.{rowWriting, answerOf, outputAfter};
 ghost use Rattle.gdi_write.specs.Answers.{told};
 ghost use Rattle.gdi_rows.specs.Places.{putAt};
+use gdi::WIDEST;
 use gdi_write::Written;
 
 // Puts the bytes at place `at` of the output, where it has room for them.
@@ -140,7 +141,7 @@ pub fn write_row(width: usize, row: &[u8], output: &mut [u8]) -> Written
     if width < 1 {
         return Written::Refused(27, 0);
     }
-    if 16383 < width {
+    if width > WIDEST {
         return Written::Refused(27, 0);
     }
     if row.len() != (width + 7) / 8 {
@@ -152,7 +153,7 @@ pub fn write_row(width: usize, row: &[u8], output: &mut [u8]) -> Written
     // No block fits one byte, so that nothing is put there: the line is only measured.
     let mut no_room = [0u8; 1];
     let line = put_runs(row, width, &mut no_room);
-    if line.longest > 16383 {
+    if line.longest > WIDEST {
         return Written::Refused(28, 0);
     }
     if output.len() < line.bytes {

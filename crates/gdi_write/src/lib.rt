@@ -1,10 +1,12 @@
-// Writers of Sagem GDI jobs: heads and ends; and paper. The writer of rows is in gdi_rows. Each puts its bytes at the beginning of the output that the caller lends, and answers how many they are; the bytes
-// of the output beyond them stay. A refusal has a number and place 0, and then the output stays whole.
+// Writers of Sagem GDI jobs: heads and ends; and paper. The writer of rows is in gdi_rows. Each puts its bytes at the beginning of the output that the
+// caller lends, and answers how many they are; the bytes of the output beyond them stay. A refusal has a number and place 0, and then the output
+// stays whole.
 ghost use mathlib.Core.Path.{_≡_};
 ghost use lib.ListN.{length};
 ghost use Rattle.gdi.specs.Writers.{put, headWriting, pageEndWriting, documentEndWriting, pageHeadWriting, answerOf, outputAfter};
 ghost use Rattle.gdi_write.specs.Paper.{a4, a5, letter, monarch, fillAnswer};
 ghost use Rattle.gdi_write.specs.Answers.{told, filled};
+use gdi::WIDEST;
 
 // The number of bytes that were written, or a refusal's number and place.
 pub enum Written {
@@ -61,7 +63,7 @@ impl Paper {
         if self.width < 1 {
             return Filled::Refused(27, 0);
         }
-        if self.width > 16383 {
+        if self.width as usize > WIDEST {
             return Filled::Refused(27, 0);
         }
         Filled::Linefill((0x80 + self.width % 64) * 256 + self.width / 64)

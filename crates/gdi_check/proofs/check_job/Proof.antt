@@ -1,21 +1,17 @@
 -- `gdi_check::check_job` meets its contract. The loop's invariant: the head's bytes before place i agree. Assumes nothing.
 use mathlib.Core.Path.{_≡_, refl, sym, ap, _∙_}
 use mathlib.Core.List.{List}
-use Prim.Native.Nat.{ℕ, _-_, _<_, _≤_}
+use Prim.Native.Nat.{ℕ, _-_, _≤_}
 use native.Mathlib.Omega.{arith}
 use borrow.Author.Tests.{lt-ltb, le-ltb}
 use lib.ListN.{length, drop}
-use Rattle.gdi.specs.Groups.{headBytes, group-cases}
-use Rattle.gdi.specs.Jobs.{longest, between, refused, walk, walkHead, jobAnswer}
+use Rattle.gdi.specs.Groups.{codes, headBytes, group-cases}
+use Rattle.gdi.specs.Jobs.{longest, between, walk, walkHead, jobAnswer, too-long}
 use Rattle.gdi.proofs.Jobs.{head-done, head-ends, head-agrees, head-differs}
 use Rattle.gdi_check.proofs.check_job.Statement.{statement}
 use Rattle.gdi_check.proofs.check_job.Tie as tie
 
--- a job is too long, or not
-too-long : (job : List ℕ) → longest < length job → refused 1 0 ≡ jobAnswer job
-unfolding jobAnswer
-too-long job h = rw (lt-ltb longest (length job) h) refl
-
+-- a job that is not too long
 not-too-long : (job : List ℕ) → length job ≤ longest → jobAnswer job ≡ walkHead 0 headBytes job
 unfolding jobAnswer
 not-too-long job h = rw (le-ltb longest (length job) h) refl
@@ -27,7 +23,7 @@ abbrev μ-loop : tie.MeasureT-loop
 μ-loop job i₀ i = 86 - i
 
 returns : tie.Need-returns Inv-loop μ-loop
-returns c = too-long _ (c .if1 .taken)
+returns c = sym (too-long _ (lt-ltb _ _ (c .if1 .taken)))
 
 loop-holds : tie.Need-loop-holds Inv-loop μ-loop
 loop-holds c = (c .if1 .left, omega arith, omega arith, not-too-long _ (c .if1 .left))
@@ -44,7 +40,7 @@ array-read-if3 : tie.Need-array-read-if3 Inv-loop μ-loop
 array-read-if3 c = omega arith
 
 returns-3 : tie.Need-returns-3 Inv-loop μ-loop
-unfolding headBytes
+unfolding codes headBytes
 returns-3 c =
     let l = c .before .before .before .before .loop in
     sym (l .inv .3 ∙ head-differs headBytes _ _ (omega (arith, group-cases .head-length)) (omega arith) (c .if3 .taken))
@@ -56,7 +52,7 @@ loop-less : tie.Need-loop-less Inv-loop μ-loop
 loop-less c = omega arith
 
 loop-again : tie.Need-loop-again Inv-loop μ-loop
-unfolding headBytes
+unfolding codes headBytes
 loop-again c =
     let l = c .before .before .before .before .loop in (
       l .inv .0,

@@ -1,6 +1,6 @@
 -- `gdi_write::write_head` meets its contract: the constant of `gdi` is the head. Assumes nothing.
 use mathlib.Core.Path.{refl}
-use Rattle.gdi.specs.Groups.{headBytes}
+use Rattle.gdi.specs.Groups.{codes, headBytes}
 use Rattle.gdi.specs.Writers.{headWriting}
 use Rattle.gdi_write.proofs.write_head.Statement.{statement}
 use Rattle.gdi_write.proofs.write_head.Tie as tie
@@ -15,7 +15,7 @@ same-length : tie.Need-same-length
 same-length c = c .before .before .put-all .kept .1 .0
 
 returns : tie.Need-returns
-unfolding headWriting headBytes
+unfolding headWriting codes headBytes
 returns c = c .before .before .put-all .ensures
 
 pub write-head-spec : {M : Type 1} → statement M

@@ -9,21 +9,24 @@ use Rattle.gdi_write.proofs.Paper.linefill.Tie as tie
 returns : tie.Need-returns
 returns c = (fill-refused _ (admitted-no _ (λ h. omega arith)), (refl, (refl, (refl, refl))))
 
+cast-if2 : tie.Need-cast-if2
+cast-if2 c = omega arith
+
 returns-2 : tie.Need-returns-2
 returns-2 c = (fill-refused _ (admitted-no _ (λ h. omega arith)), (refl, (refl, (refl, refl))))
 
-add-t4 : tie.Need-add-t4
-add-t4 c = omega arith
+add-t5 : tie.Need-add-t5
+add-t5 c = omega arith
 
-mul-t5 : tie.Need-mul-t5
-mul-t5 c = omega arith
+mul-t6 : tie.Need-mul-t6
+mul-t6 c = omega arith
 
-add-t7 : tie.Need-add-t7
-add-t7 c = omega arith
+add-t8 : tie.Need-add-t8
+add-t8 c = omega arith
 
 returns-3 : tie.Need-returns-3
 unfolding linefillOf
 returns-3 c = (fill-given _ (omega arith) (omega arith), (refl, (refl, (refl, refl))))
 
 pub linefill-spec : {M : Type 1} → statement M
-linefill-spec = tie.close (tie.spec returns returns-2 add-t4 mul-t5 add-t7 returns-3)
+linefill-spec = tie.close (tie.spec returns cast-if2 returns-2 add-t5 mul-t6 add-t8 returns-3)
