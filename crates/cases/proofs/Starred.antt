@@ -12,7 +12,7 @@ use Rattle.gdi.specs.Groups.{admitted, fields, fits, group}
 use Rattle.gdi.specs.Pages.{next}
 use Rattle.gdi.specs.Lines.{lineDot, rowLength, lineRow, lineFrom, lineAt}
 use Rattle.gdi.specs.Rows.{commandBytes}
-use Rattle.gdi.proofs.Commands.{command-one, command-two}
+use Rattle.gdi.proofs.Commands.{command-two}
 use Rattle.cases.specs.Starred.{Starred}
 
 pub starred : Starred

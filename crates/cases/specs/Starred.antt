@@ -2,7 +2,7 @@
 use mathlib.Core.Path.{_≡_}
 use mathlib.Core.Bool.{true, false}
 use mathlib.Core.List.{List, [], _∷_}
-use Prim.Native.Nat.{ℕ, _+_, _≤_}
+use Prim.Native.Nat.{ℕ, _≤_}
 use Rattle.commands.specs.Commands.{paint, rectangle, trapezoid, broken, commandIn}
 use Rattle.imaging.specs.Masks.{masked}
 use Rattle.imaging.specs.Pictures.{rowsOf}

@@ -1,5 +1,5 @@
 -- Laws of groups: what each kind is known by, and what is known of it. Assumes nothing.
-use mathlib.Core.Path.{_≡_, refl, sym, ap, _∙_, subst}
+use mathlib.Core.Path.{_≡_, refl, subst}
 use mathlib.Core.Bool.{Bool, true, false, cond, _&&_}
 use mathlib.Core.List.{List, []}
 use Prim.Native.Nat.{ℕ, _<_, _≤_}
@@ -9,7 +9,7 @@ use borrow.Author.Tests.{lt-ltb, le-ltb, ltb-false}
 use lib.Dec.{leb, ltb}
 use lib.ListN.{length, getD}
 use Rattle.row.proofs.Tests.{Is, leb-is, and-is}
-use Rattle.gdi.specs.Groups.{Group, cut, pageHead, wrongPageHead, block, pageEnd, documentEnd, unknown, fits, numberAt, admitted, fields, pageStart, pageForm, blockForm, pageEndBytes, documentEndBytes, pageHeadIn, group}
+use Rattle.gdi.specs.Groups.{cut, pageHead, wrongPageHead, block, pageEnd, documentEnd, unknown, fits, numberAt, admitted, fields, pageStart, pageForm, blockForm, pageEndBytes, documentEndBytes, pageHeadIn, group}
 
 -- two constructors clash
 pub never : {A : Type 0} → _≡_ {A = ℕ} 0 1 → A

@@ -1,17 +1,15 @@
 -- Laws of what comes next in a page. Assumes nothing.
 use mathlib.Core.Path.{_≡_, refl, subst}
-use mathlib.Core.Bool.{Bool, true, false, cond, _&&_}
+use mathlib.Core.Bool.{Bool, true, false, cond}
 use mathlib.Core.List.{List, [], _∷_}
 use Prim.Native.Nat.{ℕ, zero, suc, _%_, _<_, _≤_}
 use native.Mathlib.Omega.{arith}
-use native.Mathlib.Decide.{decLt}
-use borrow.Author.Tests.{lt-ltb, ltb-false, lt-leb}
-use lib.Dec.{leb, ltb}
+use borrow.Author.Tests.{lt-leb}
+use lib.Dec.{leb}
 use lib.ListN.{length, getD}
-use Rattle.row.proofs.Tests.{Is, leb-is, and-is}
 use Rattle.row.proofs.Dots.{Bytes}
 use Rattle.gdi.specs.Commands.{Command, run, dotsOf, taken, broken, blackBit, withSecond, command}
-use Rattle.gdi.specs.Groups.{Group, cut, pageHead, wrongPageHead, block, pageEnd, documentEnd, unknown, fits, admitted, fields, pageStart, pageForm, blockForm, pageEndBytes, documentEndBytes, numberAt, group}
+use Rattle.gdi.specs.Groups.{Group, cut, pageHead, wrongPageHead, block, pageEnd, documentEnd, unknown, group}
 use Rattle.gdi.specs.Pages.{Next, toBlock, toEnd, toCommand, fault, inGap, ofCommand, next}
 use Rattle.gdi.proofs.Groups.{never, group-long}
 

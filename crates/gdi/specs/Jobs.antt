@@ -1,12 +1,12 @@
 -- The job check: a walk over the job, a step at a time over a small state. A job is its head, any number of pages, and the document end; a page
 -- is its page head, blocks, and the page end.
 use mathlib.Core.Path.{_≡_, refl}
-use mathlib.Core.Bool.{Bool, true, false, cond}
+use mathlib.Core.Bool.{true, false, cond}
 use mathlib.Core.List.{List, [], _∷_, _++_}
 use Prim.Native.Nat.{ℕ, zero, suc, _+_, _-_}
 use lib.Dec.{eqb, leb, ltb}
 use lib.ListN.{length, take}
-use Rattle.gdi.specs.Commands.{Command, run, dotsOf, command}
+use Rattle.gdi.specs.Commands.{dotsOf, command}
 use Rattle.gdi.specs.Groups.{Group, cut, pageHead, wrongPageHead, block, pageEnd, documentEnd, unknown, fits, codes, headBytes, admitted, fields, group, examplePage, pageEndBytes, documentEndBytes}
 use Rattle.gdi.specs.Pages.{Next, toBlock, toEnd, toCommand, fault, next}
 
@@ -128,6 +128,7 @@ pub record JobCases : Type 0 where
   pub early-end : inside ends ≡ refused 25 107
   pub end-inside-line : inside (blockOf 2 ++ (0x43 ∷ 0x02 ∷ []) ++ ends) ≡ refused 25 115
   pub command-after : inside (blockOf 3 ++ (0x43 ∷ 0x03 ∷ 0x80 ∷ []) ++ ends) ≡ refused 25 115
+  pub block-after : inside (blockOf 2 ++ (0x43 ∷ 0x03 ∷ []) ++ blockOf 1 ++ (0x00 ∷ []) ++ ends) ≡ refused 25 121
   -- a byte that is missing after the lines is no command
   pub missing-after : inside (blockOf 3 ++ (0x43 ∷ 0x03 ∷ [])) ≡ refused 24 115
   pub second-past-block : inside (blockOf 1 ++ (0x80 ∷ []) ++ ends) ≡ refused 24 113

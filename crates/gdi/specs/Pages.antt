@@ -2,7 +2,7 @@
 -- stand here once.
 use mathlib.Core.Path.{_≡_}
 use mathlib.Core.Bool.{Bool, true, false, cond}
-use mathlib.Core.List.{List, [], _∷_, _++_}
+use mathlib.Core.List.{List, [], _∷_}
 use Prim.Native.Nat.{ℕ, zero, suc}
 use lib.ListN.{length, set, take}
 use Rattle.gdi.specs.Commands.{Command, run, Taken, taken, broken, command}

@@ -1,7 +1,7 @@
 -- The writers: what each puts at the beginning of its output, or the refusal that it gives. Every refusal of a writer has place 0.
 use mathlib.Core.Path.{_≡_}
-use mathlib.Core.Bool.{Bool, true, false, not, cond}
-use mathlib.Core.List.{List, [], _∷_, _++_, map}
+use mathlib.Core.Bool.{not, cond}
+use mathlib.Core.List.{List, [], _∷_, _++_}
 use Prim.Native.Nat.{ℕ, _+_, _*_, _/_, _%_}
 use lib.Dec.{eqb, leb, ltb}
 use lib.ListN.{length, drop}
@@ -9,7 +9,6 @@ use Rattle.row.specs.Dots as dots
 use Rattle.row.specs.Dots.{dotAt}
 use Rattle.row.specs.Spare.{clearFrom, spareClear}
 use Rattle.row.specs.Counts.{joined}
-use Rattle.gdi.specs.Commands.{Command, run}
 use Rattle.gdi.specs.Groups.{codes, headBytes, pageEndBytes, documentEndBytes, admitted, fields, examplePage}
 use Rattle.gdi.specs.Lines.{rowLength}
 use Rattle.gdi.specs.Rows.{runsFrom, runs, longestRun, commandBytes, blocks, blockBytes, rowBytes}

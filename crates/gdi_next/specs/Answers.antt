@@ -1,5 +1,4 @@
 -- What the answers of the code say.
-use mathlib.Core.Bool.{Bool}
 use Rattle.gdi.specs.Commands.{run}
 use Rattle.gdi.specs.Groups as groups
 use Rattle.gdi.specs.Pages as pages

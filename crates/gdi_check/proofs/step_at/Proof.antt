@@ -1,5 +1,5 @@
 -- `gdi_check::step_at` meets its contract, in both kinds of state. Assumes nothing.
-use mathlib.Core.Path.{_≡_, sym, ap, subst, _∙_}
+use mathlib.Core.Path.{sym, ap, subst, _∙_}
 use native.Mathlib.Omega.{arith}
 use lib.ListN.{drop}
 use Rattle.gdi.specs.Jobs.{State, step}

@@ -1,6 +1,6 @@
 -- `gdi_check::walk_pages` meets its contract. The loop's invariant: what stands before place `at` is passed. The measure is the number of bytes
 -- left. Assumes nothing.
-use mathlib.Core.Path.{_≡_, sym, ap, _∙_}
+use mathlib.Core.Path.{sym, ap, _∙_}
 use Prim.Native.Nat.{_+_, _-_, _≤_}
 use native.Mathlib.Omega.{arith}
 use lib.ListN.{length}

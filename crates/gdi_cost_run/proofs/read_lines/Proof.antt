@@ -1,7 +1,6 @@
 -- `gdi_cost_run::read_lines` is safe and ends: it reads at most as many lines as there are bytes. Assumes nothing.
-use mathlib.Core.Path.{_≡_, _∙_}
+use mathlib.Core.Path.{_≡_}
 use Prim.Native.Nat.{_-_, _≤_}
-use native.Mathlib.Omega.{arith}
 use borrow.Author.Needs.{needs}
 use lib.ListN.{length}
 use Rattle.gdi_cost_run.proofs.read_lines.Statement.{statement}

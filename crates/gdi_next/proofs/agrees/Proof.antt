@@ -1,5 +1,5 @@
 -- `gdi_next::agrees` meets its contract. Assumes nothing.
-use mathlib.Core.Path.{sym, refl}
+use mathlib.Core.Path.{refl}
 use borrow.Author.Tests.{eq-eqb, ne-eqb}
 use Rattle.gdi_next.proofs.agrees.Statement.{statement}
 use Rattle.gdi_next.proofs.agrees.Tie as tie

@@ -1,5 +1,5 @@
 -- `gdi_next::bytes_from` meets its contract. Assumes nothing.
-use mathlib.Core.Path.{sym, _∙_}
+use mathlib.Core.Path.{sym}
 use native.Mathlib.Omega.{arith}
 use lib.ListN.{length-drop}
 use Rattle.gdi_next.proofs.bytes_from.Statement.{statement}

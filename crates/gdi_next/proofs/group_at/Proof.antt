@@ -1,9 +1,7 @@
 -- `gdi_next::group_at` meets its contract. Assumes nothing.
-use mathlib.Core.Path.{_≡_, sym, ap, _∙_}
-use Prim.Native.Nat.{_≤_, _<_}
+use mathlib.Core.Path.{sym, _∙_}
 use native.Mathlib.Omega.{arith}
-use lib.ListN.{length, drop, length-drop}
-use Rattle.gdi.specs.Groups.{Group}
+use lib.ListN.{drop, length-drop}
 use Rattle.gdi_next.proofs.Forms.{number-drop}
 use Rattle.gdi.proofs.Groups.{group-short, group-page-cut, group-page, group-block, group-page-end, group-document-end, group-unknown}
 use Rattle.gdi_next.proofs.group_at.Statement.{statement}

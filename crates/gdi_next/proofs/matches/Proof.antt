@@ -1,16 +1,13 @@
 -- `gdi_next::matches` meets its contract. The loop's invariant: the form from i on is to be held against the bytes from there on. Assumes nothing.
-use mathlib.Core.Path.{_≡_, sym, ap, _∙_}
+use mathlib.Core.Path.{_≡_, sym, _∙_}
 use mathlib.Core.Bool.{true, false}
-use Prim.Native.Nat.{_+_, _-_, _≤_}
+use Prim.Native.Nat.{_-_, _≤_}
 use native.Mathlib.Omega.{arith}
 use borrow.Author.Tests.{not-true, not-false}
 use lib.ListN.{length}
 use Rattle.gdi_next.proofs.Forms.{fitsFrom, fits-first, fits-done, fits-short, fits-byte}
 use Rattle.gdi_next.proofs.matches.Statement.{statement}
 use Rattle.gdi_next.proofs.matches.Tie as tie
-use Rattle.gdi_next.proofs.matches.Reads as reads
-use Rattle.gdi_next.proofs.matches.Lts as lts
-use Rattle.gdi_next.proofs.agrees.Reads as agrees-reads
 use Rattle.gdi.specs.Groups.{fits}
 use lib.ListN.{drop}
 

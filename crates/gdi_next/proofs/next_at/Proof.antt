@@ -1,5 +1,5 @@
 -- `gdi_next::next_at` meets its contract. Assumes nothing.
-use mathlib.Core.Path.{_≡_, refl, sym, ap, _∙_}
+use mathlib.Core.Path.{_≡_, refl, _∙_}
 use mathlib.Core.Bool.{Bool, true, false}
 use mathlib.Core.List.{List, _∷_}
 use Prim.Native.Nat.{ℕ, zero, suc, _+_, _<_, _≤_}
@@ -7,9 +7,8 @@ use native.Mathlib.Numerals.{add-one}
 use native.Mathlib.Omega.{arith}
 use lib.ListN.{length, drop, getD, drop-of-length-le}
 use lib.Seq.{drop-cons}
-use Rattle.gdi.specs.Commands.{command}
 use Rattle.gdi.specs.Groups.{group}
-use Rattle.gdi.specs.Pages.{Next, fault, inGap, ofCommand, inBlock, next}
+use Rattle.gdi.specs.Pages.{fault, inGap, inBlock, next}
 use Rattle.gdi_next.proofs.next_at.Statement.{statement}
 use Rattle.gdi_next.proofs.next_at.Tie as tie
 
