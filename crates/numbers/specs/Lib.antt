@@ -1,0 +1,2 @@
+-- The numbers of each answer: Numbers.
+pub mod Numbers

@@ -1,0 +1,161 @@
+// The library for programs in C and Rust: host/include/printbox.h declares it. Each entry point gives its answer as three numbers: kind, a and b. Kind 0:
+// done, with values that the entry point names; kind 1: refused, a is the number and b the place; kind 2: page end, a and b are the next place.
+ghost use mathlib.Core.Path.{_≡_};
+ghost use lib.ListN.{length};
+ghost use Rattle.sheet.specs.Check.{checkAnswer};
+ghost use Rattle.demand.specs.Draw.{drawAnswer, bufferAfter};
+ghost use Rattle.demand.specs.Promise as draw;
+ghost use Rattle.gdi.specs.Jobs.{jobAnswer};
+ghost use Rattle.gdi.specs.Lines as lines;
+ghost use Rattle.gdi.specs.Writers.{headWriting, pageEndWriting, documentEndWriting, pageHeadWriting, rowWriting, answerOf, outputAfter};
+ghost use Rattle.gdi_write.specs.Paper.{fillAnswer};
+ghost use Rattle.gdi_write.specs.Answers as write;
+ghost use Rattle.numbers.specs.Numbers.{ofCheck, ofDraw, ofJob, ofLine, ofWriting, ofFill};
+use gdi::WIDEST;
+use gdi_write::Filled;
+use gdi_write::Paper;
+use numbers::of_check;
+use numbers::of_draw;
+use numbers::of_fill;
+use numbers::of_job;
+use numbers::of_line;
+use numbers::of_writing;
+
+// Checks a sheet with its load. Done: pages, 0.
+#[no_mangle]
+pub extern "C" fn film_check(sheet: &[u8], load: &[u8], answer: &mut [u64; 3])
+    ensures { λ _. ⌜ now (answer .exit) ≡ ofCheck (checkAnswer (now (sheet .entry)) (now (load .entry))) ⌝ }
+{
+    *answer = of_check(sheet::check(sheet, load));
+}
+
+// Draws band `band` of page `page` into the buffer, as film::draw. Done: rows, dots.
+#[no_mangle]
+pub extern "C" fn film_draw<'a>(
+    sheet: &'a [u8],
+    load: &'a [u8],
+    page: usize,
+    band: usize,
+    buffer: &mut [u8],
+    answer: &mut [u64; 3],
+)
+    ensures { λ _. ⌜ now (answer .exit) ≡ ofDraw (draw.due (drawAnswer (now (sheet .entry)) (now (load .entry)) page band (length (now (buffer .entry))))) ⌝ }
+    ensures { λ _. ⌜ now (buffer .exit) ≡ bufferAfter (drawAnswer (now (sheet .entry)) (now (load .entry)) page band (length (now (buffer .entry)))) (now (buffer .entry)) ⌝ }
+{
+    *answer = of_draw(film::draw(sheet, load, page, band, buffer));
+}
+
+// Checks a job. Done: pages, 0.
+#[no_mangle]
+pub extern "C" fn gdi_check(job: &[u8], answer: &mut [u64; 3])
+    ensures { λ _. ⌜ now (answer .exit) ≡ ofJob (jobAnswer (now (job .entry))) ⌝ }
+{
+    *answer = of_job(gdi_check::check_job(job));
+}
+
+// Reads the line at the place (offset, left) into the row, as gdi_read::read_line. Done: the next place.
+#[no_mangle]
+pub extern "C" fn gdi_read_line(
+    job: &[u8],
+    offset: usize,
+    left: usize,
+    width: usize,
+    row: &mut [u8],
+    answer: &mut [u64; 3],
+)
+    ensures { λ _. ⌜ now (answer .exit) ≡ ofLine (lines.answerOf (lines.lineAt (now (job .entry)) offset left width (length (now (row .entry))))) ⌝ }
+    ensures { λ _. ⌜ now (row .exit) ≡ lines.rowAfter width (lines.lineAt (now (job .entry)) offset left width (length (now (row .entry)))) (now (row .entry)) ⌝ }
+{
+    *answer = of_line(gdi_read::read_line(job, offset, left, width, row));
+}
+
+// Writes the head of a job. Done: bytes written, 0.
+#[no_mangle]
+pub extern "C" fn gdi_write_head(output: &mut [u8], answer: &mut [u64; 3])
+    ensures { λ _. ⌜ now (answer .exit) ≡ ofWriting (answerOf (headWriting (length (now (output .entry))))) ⌝ }
+    ensures { λ _. ⌜ now (output .exit) ≡ outputAfter (headWriting (length (now (output .entry)))) (now (output .entry)) ⌝ }
+{
+    *answer = of_writing(gdi_write::write_head(output));
+}
+
+// Writes the end of a page. Done: bytes written, 0.
+#[no_mangle]
+pub extern "C" fn gdi_write_page_end(output: &mut [u8], answer: &mut [u64; 3])
+    ensures { λ _. ⌜ now (answer .exit) ≡ ofWriting (answerOf (pageEndWriting (length (now (output .entry))))) ⌝ }
+    ensures { λ _. ⌜ now (output .exit) ≡ outputAfter (pageEndWriting (length (now (output .entry)))) (now (output .entry)) ⌝ }
+{
+    *answer = of_writing(gdi_write::write_page_end(output));
+}
+
+// Writes the end of a document. Done: bytes written, 0.
+#[no_mangle]
+pub extern "C" fn gdi_write_document_end(output: &mut [u8], answer: &mut [u64; 3])
+    ensures { λ _. ⌜ now (answer .exit) ≡ ofWriting (answerOf (documentEndWriting (length (now (output .entry))))) ⌝ }
+    ensures { λ _. ⌜ now (output .exit) ≡ outputAfter (documentEndWriting (length (now (output .entry)))) (now (output .entry)) ⌝ }
+{
+    *answer = of_writing(gdi_write::write_document_end(output));
+}
+
+// Writes the head of a page. Done: bytes written, 0.
+#[no_mangle]
+pub extern "C" fn gdi_write_page_head(
+    tray: u32,
+    width: u16,
+    height: u16,
+    format: u8,
+    paper_type: u8,
+    copies: u8,
+    toner: u8,
+    output: &mut [u8],
+    answer: &mut [u64; 3],
+)
+    ensures { λ _. ⌜ now (answer .exit) ≡ ofWriting (answerOf (pageHeadWriting
+        (record { tray = tray; width = width; height = height; format = format; paperType = «paper_type»; copies = copies; toner = toner })
+        (length (now (output .entry))))) ⌝ }
+    ensures { λ _. ⌜ now (output .exit) ≡ outputAfter (pageHeadWriting
+        (record { tray = tray; width = width; height = height; format = format; paperType = «paper_type»; copies = copies; toner = toner })
+        (length (now (output .entry)))) (now (output .entry)) ⌝ }
+{
+    *answer = of_writing(gdi_write::write_page_head(
+        tray,
+        width,
+        height,
+        format,
+        paper_type,
+        copies,
+        toner,
+        output,
+    ));
+}
+
+// Writes a row as a line, as gdi_rows::write_row. Done: bytes written, 0.
+#[no_mangle]
+pub extern "C" fn gdi_write_row(width: usize, row: &[u8], output: &mut [u8], answer: &mut [u64; 3])
+    ensures { λ _. ⌜ now (answer .exit) ≡ ofWriting (answerOf (rowWriting width (now (row .entry)) (length (now (output .entry))))) ⌝ }
+    ensures { λ _. ⌜ now (output .exit) ≡ outputAfter (rowWriting width (now (row .entry)) (length (now (output .entry)))) (now (output .entry)) ⌝ }
+{
+    *answer = of_writing(gdi_rows::write_row(width, row, output));
+}
+
+// The linefill of paper of that width; its height and number do not matter.
+fn linefill(width: usize) -> Filled
+    ensures { λ r. ⌜ write.filled r ≡ fillAnswer width ⌝ }
+{
+    if width > WIDEST {
+        return Filled::Refused(27, 0);
+    }
+    let paper = Paper {
+        width: width as u16,
+        height: 0,
+        index: 0,
+    };
+    paper.linefill()
+}
+
+// The command of a white line. Done: the linefill, 0.
+#[no_mangle]
+pub extern "C" fn gdi_linefill(width: usize, answer: &mut [u64; 3])
+    ensures { λ _. ⌜ now (answer .exit) ≡ ofFill (fillAnswer width) ⌝ }
+{
+    *answer = of_fill(linefill(width));
+}

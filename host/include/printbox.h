@@ -1,0 +1,197 @@
+/*
+ * printbox.h: the print box's library, for C and C++ programs.
+ *
+ * Link with libprintbox.a, which `rt staticlib printbox` builds. It draws tolerance films from
+ * sheets of masks, and checks, reads and writes Sagem GDI jobs. What each entry answers is proved
+ * for every input.
+ *
+ * What a caller owes. The proofs assume it, and no entry can test it:
+ *
+ * - No pointer is null, at length 0 too.
+ * - A pointer with a length has that many bytes behind it.
+ * - `answer` is aligned room for three uint64_t.
+ * - What an entry writes (buffer, row of the line reader, output, answer) overlaps nothing else
+ *   that is lent to it.
+ * - Nobody writes what is lent during the call.
+ *
+ * Nothing else is asked. Lengths, page, band, offset, left, width and every byte of an input may be
+ * anything. No entry relies on an earlier check, and none keeps anything between calls.
+ *
+ * What an entry answers. It sets all three numbers of `answer`: a kind, a and b.
+ *
+ *   PRINTBOX_DONE      Done. What a and b are is said at the entry; where it says one number, that
+ *                      is a, and b is 0.
+ *   PRINTBOX_REFUSED   Refused. a is the number of the refusal, b its place.
+ *   PRINTBOX_PAGE_END  gdi_read_line only: the page end stands where a line would start. a and b
+ *                      are the next place.
+ *
+ * A refused call changes no byte of buffer, row or output. A call that is done writes their first
+ * bytes, and those beyond what is written stay. The bytes of an input always stay.
+ *
+ * The numbers of refusals, with their places. A place is a word of the sheet or a byte of the job,
+ * counted from 0.
+ *
+ *    1  sheet or load of an odd length; sheet, load or job too long: 0
+ *    2  sheet under 12 words: 0; wrong password: 0; wrong version: 1
+ *    3  imageSSize, imageFSize, bandSSize or copies outside its range: that word;
+ *       band bytes over their limit: 7
+ *    4  the load has no whole count, its count is not its length, or is over maxLoadWords: 8
+ *    5  page count 0, or a wrong count of bands: that word
+ *    6  a count word is missing: the sheet's words; a band past the sheet: its count word;
+ *       a command past its band: its code word
+ *    7  unknown code: the code word
+ *    8  priority over its limit or falling, tile mode not 0 or 1, trapezoid of one row: the code
+ *       word
+ *    9  tile, sample array or run group past the load, tile with a side of 0: the code word
+ *   10  words after the last page: the first of them
+ *   11  no such page or band: 0
+ *   12  buffer shorter than the band's rows: 0
+ *   21  the job's head differs: the first byte that does
+ *   22  a page head with other fixed bytes, or width, height or toner outside its range: its first
+ *       byte; 0 from the writer
+ *   23  a group of bytes that may not come next: its first byte
+ *   24  the job ends where bytes are needed: the job's length; a command's second byte past its
+ *       block: the command
+ *   25  a page end inside a line or before all lines: the page end; a command after all lines: the
+ *       command
+ *   26  bytes after the document end: the first of them
+ *   27  width outside its range, row of another length, row with a spare bit set (writer), output
+ *       too short: 0
+ *   28  a run over 16,383 dots: 0; no row of an admitted width has one, so it is never given
+ */
+
+#ifndef PRINTBOX_H
+#define PRINTBOX_H
+
+#include <stddef.h>
+#include <stdint.h>
+
+#ifdef __cplusplus
+extern "C" {
+#endif
+
+/* The kinds of answers: answer[0]. */
+#define PRINTBOX_DONE 0
+#define PRINTBOX_REFUSED 1
+#define PRINTBOX_PAGE_END 2
+
+/* The greatest length of a sheet, a load or a job, in bytes. */
+#define PRINTBOX_FILE_BYTES 16777216
+
+/* The greatest number of bytes of a band's rows: a buffer of this length is always enough. */
+#define PRINTBOX_BAND_BYTES 65536
+
+/* The greatest width of a line of a job, in dots. The least is 1. */
+#define PRINTBOX_GDI_WIDTH 16383
+
+/* The bytes of a job's head, of a page head, and of a page end or document end. */
+#define PRINTBOX_GDI_HEAD_BYTES 86
+#define PRINTBOX_GDI_PAGE_HEAD_BYTES 21
+#define PRINTBOX_GDI_END_BYTES 6
+
+/*
+ * The bytes of a row of a film, two for each 16 dots, and of a row of a job's line, one for each 8;
+ * rounded up. The high bit of the first byte is dot 0. Spare bits are 0.
+ */
+#define PRINTBOX_FILM_ROW_BYTES(dots) (((size_t)(dots) + 15) / 16 * 2)
+#define PRINTBOX_GDI_ROW_BYTES(width) (((size_t)(width) + 7) / 8)
+
+/* A length of output that is enough for gdi_write_row on any row of an admitted width. */
+#define PRINTBOX_GDI_ROW_ROOM(width) ((size_t)(width) + 6 * ((size_t)(width) / 254 + 1))
+
+/*
+ * Checks a sheet with its load.
+ * Done: the number of pages.
+ * Refusals: 1 to 10.
+ */
+void film_check(const uint8_t *sheet, size_t sheet_length,
+                const uint8_t *load, size_t load_length,
+                uint64_t answer[3]);
+
+/*
+ * Draws a band of a page, both counted from 0. Its rows stand in the buffer from the first byte on;
+ * what the buffer held does not matter. On a sheet that the check passes, no page and band that it
+ * has are refused to a buffer of at least the band's bytes.
+ * Done: a is the number of rows, b the number of one bits in them.
+ * Refusals: 1 to 9, 11, 12.
+ */
+void film_draw(const uint8_t *sheet, size_t sheet_length,
+               const uint8_t *load, size_t load_length,
+               size_t page, size_t band,
+               uint8_t *buffer, size_t buffer_length,
+               uint64_t answer[3]);
+
+/*
+ * Checks a job.
+ * Done: the number of pages.
+ * Refusals: 1, 21 to 26.
+ */
+void gdi_check(const uint8_t *job, size_t job_length, uint64_t answer[3]);
+
+/*
+ * Reads the line that starts at a place: a byte of the job, and the bytes that are left of the
+ * block which holds it, 0 between blocks. The row has exactly PRINTBOX_GDI_ROW_BYTES(width); a
+ * black dot is 1. Heads are not looked at, and lines are not counted.
+ * Done: the row is written; a and b are the next place, offset and left.
+ * Page end: the row stays; a and b are the place after the page end.
+ * Refusals: 1, 23, 24, 25, 27.
+ */
+void gdi_read_line(const uint8_t *job, size_t job_length,
+                   size_t offset, size_t left, size_t width,
+                   uint8_t *row, size_t row_length,
+                   uint64_t answer[3]);
+
+/*
+ * Writes the head of a job.
+ * Done: the bytes written, PRINTBOX_GDI_HEAD_BYTES.
+ * Refusals: 27.
+ */
+void gdi_write_head(uint8_t *output, size_t output_length, uint64_t answer[3]);
+
+/*
+ * Writes a page head. Width is 1 to 16,383, height 1 to 65,535, toner 0 or 1; the others may be any
+ * numbers. The format of A4 is 0, of Letter 1, of A5 4, of Monarch 8.
+ * Done: the bytes written, PRINTBOX_GDI_PAGE_HEAD_BYTES.
+ * Refusals: 22, 27.
+ */
+void gdi_write_page_head(uint32_t tray, uint16_t width, uint16_t height,
+                         uint8_t format, uint8_t paper_type, uint8_t copies, uint8_t toner,
+                         uint8_t *output, size_t output_length,
+                         uint64_t answer[3]);
+
+/*
+ * Writes a row as a line, in blocks of its own. The row has exactly PRINTBOX_GDI_ROW_BYTES(width).
+ * Done: the bytes written, at most PRINTBOX_GDI_ROW_ROOM(width).
+ * Refusals: 27; and 28, whose rule no row meets.
+ */
+void gdi_write_row(size_t width,
+                   const uint8_t *row, size_t row_length,
+                   uint8_t *output, size_t output_length,
+                   uint64_t answer[3]);
+
+/*
+ * Writes a page end.
+ * Done: the bytes written, PRINTBOX_GDI_END_BYTES.
+ * Refusals: 27.
+ */
+void gdi_write_page_end(uint8_t *output, size_t output_length, uint64_t answer[3]);
+
+/*
+ * Writes a document end.
+ * Done: the bytes written, PRINTBOX_GDI_END_BYTES.
+ * Refusals: 27.
+ */
+void gdi_write_document_end(uint8_t *output, size_t output_length, uint64_t answer[3]);
+
+/*
+ * The linefill of a width: the two-byte command for a line that is all white.
+ * Done: the linefill, its first byte in the high eight bits, as 9A4A hex for width 4762.
+ * Refusals: 27.
+ */
+void gdi_linefill(size_t width, uint64_t answer[3]);
+
+#ifdef __cplusplus
+}
+#endif
+
+#endif

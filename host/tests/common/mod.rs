@@ -1,0 +1,12 @@
+//! What the tests share. A test uses a part of it.
+
+#![allow(dead_code, unused_imports)]
+
+pub mod calls;
+pub mod cases;
+pub mod fenced;
+pub mod guarded;
+pub mod raster;
+pub mod table;
+
+pub use calls::{agreed, answer, Answer, Call, Entry, Outcome};

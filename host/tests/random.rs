@@ -1,0 +1,357 @@
+//! The library against `reference` on random inputs, many of them damaged: answers and buffers,
+//! byte for byte.
+//!
+//! PRINTBOX_SEED and PRINTBOX_ROUNDS in the environment give another seed and another number of
+//! rounds. Each round has a seed of its own, the first one's and its index added, so a round that
+//! shows a difference can be run alone.
+
+mod common;
+
+use common::table::Table;
+use common::{Answer, Call, Entry, Outcome};
+use generate::{Film, Rng};
+use printbox::gdi::{row_bytes, row_room, PageHead, WIDTH_MAX};
+
+const SEED: u64 = 20_260_101;
+const ROUNDS: u64 = 80_000;
+
+fn from_environment(name: &str, otherwise: u64) -> u64 {
+    match std::env::var(name) {
+        Ok(text) => text
+            .parse()
+            .unwrap_or_else(|_| panic!("{name} is {text:?}, and no number")),
+        Err(_) => otherwise,
+    }
+}
+
+/// Calls `round` with each seed; what it answers as a difference is told with the seed.
+fn rounds(default: u64, mut round: impl FnMut(&mut Rng) -> Result<(), String>) {
+    let first = from_environment("PRINTBOX_SEED", SEED);
+    let rounds = from_environment("PRINTBOX_ROUNDS", default);
+    for index in 0..rounds {
+        let seed = first.wrapping_add(index);
+        if let Err(difference) = round(&mut Rng::new(seed)) {
+            panic!(
+                "round {index} of seed {first}, again with PRINTBOX_SEED={seed} PRINTBOX_ROUNDS=1\n\
+                 {difference}"
+            );
+        }
+    }
+}
+
+/// Makes a call and counts its answer.
+fn made(
+    table: &mut Table,
+    entry: Entry,
+    inputs: [&[u8]; 2],
+    buffer: &[u8],
+) -> Result<Outcome, String> {
+    let outcome = Call {
+        entry,
+        inputs,
+        buffer,
+    }
+    .agreed()?;
+    table.count(entry, outcome.answer);
+    Ok(outcome)
+}
+
+fn films(rng: &mut Rng, table: &mut Table, drawn: &mut u64) -> Result<(), String> {
+    let film = generate::film(rng);
+    let inputs = [&film.sheet[..], &film.load[..]];
+    let check = made(table, Entry::FilmCheck, inputs, &[])?;
+    for _ in 0..3 {
+        let generate::Call { page, band, buffer } = generate::call(rng, &film);
+        made(table, Entry::FilmDraw { page, band }, inputs, &buffer)?;
+    }
+    if let Answer::Done(pages, 0) = check.answer {
+        *drawn += draw_whole(rng, &film, pages as usize)?;
+    }
+    Ok(())
+}
+
+/// Draws every band of a film that passes the check, in some order and in one buffer. None may be
+/// refused, rows and dots are counted, and what one drawing leaves in the buffer is what the next
+/// one finds there. Answers the bands drawn.
+fn draw_whole(rng: &mut Rng, film: &Film, pages: usize) -> Result<u64, String> {
+    let field = |word: usize| {
+        usize::from(u16::from_be_bytes([
+            film.sheet[2 * word],
+            film.sheet[2 * word + 1],
+        ]))
+    };
+    let (image_s, image_f, band_s) = (field(5), field(6), field(7));
+    let row_bytes = image_f.div_ceil(16) * 2;
+    let bands = image_s.div_ceil(band_s);
+    let mut order: Vec<(usize, usize)> = (0..pages)
+        .flat_map(|page| (0..bands).map(move |band| (page, band)))
+        .collect();
+    for last in (1..order.len()).rev() {
+        order.swap(last, rng.index(last + 1));
+    }
+    let spare = rng.index(4);
+    let mut buffer = rng.bytes(band_s * row_bytes + spare);
+    let mut rows_drawn = 0;
+    for &(page, band) in &order {
+        let call = Call {
+            entry: Entry::FilmDraw { page, band },
+            inputs: [&film.sheet, &film.load],
+            buffer: &buffer,
+        };
+        let outcome = call.agreed()?;
+        let Answer::Done(rows, dots) = outcome.answer else {
+            return Err(format!(
+                "{call}\n{outcome}\na film that passes the check was refused a band"
+            ));
+        };
+        let own_rows = band_s.min(image_s - band_s * band);
+        let ones: u32 = outcome.buffer[..own_rows * row_bytes]
+            .iter()
+            .map(|byte| byte.count_ones())
+            .sum();
+        if (rows, dots) != (own_rows as u64, ones.into()) {
+            return Err(format!(
+                "{call}\n{outcome}\nthe band has {own_rows} rows and {ones} dots"
+            ));
+        }
+        rows_drawn += own_rows;
+        buffer = outcome.buffer;
+    }
+    assert_eq!(rows_drawn, pages * image_s);
+    Ok(order.len() as u64)
+}
+
+fn jobs(rng: &mut Rng, table: &mut Table) -> Result<(), String> {
+    let job = generate::job(rng);
+    let inputs = [&job[..], &[]];
+    made(table, Entry::GdiCheck, inputs, &[])?;
+    for _ in 0..3 {
+        let generate::Line {
+            offset,
+            left,
+            width,
+            row,
+        } = generate::line(rng, &job);
+        made(
+            table,
+            Entry::GdiReadLine {
+                offset,
+                left,
+                width,
+            },
+            inputs,
+            &row,
+        )?;
+    }
+    Ok(())
+}
+
+fn writers(rng: &mut Rng, table: &mut Table, read_back: &mut u64) -> Result<(), String> {
+    for _ in 0..2 {
+        let generate::Row { width, row, output } = generate::row(rng);
+        let wrote = made(table, Entry::GdiWriteRow { width }, [&row, &[]], &output)?;
+        if let Answer::Done(length, 0) = wrote.answer {
+            reads_back(rng, width, &row, &wrote.buffer[..length as usize])?;
+            *read_back += 1;
+        }
+    }
+    let head = generate::page_head(rng);
+    let entry = Entry::GdiWritePageHead(PageHead {
+        tray: head.tray,
+        width: head.width,
+        height: head.height,
+        format: head.format,
+        paper_type: head.paper_type,
+        copies: head.copies,
+        toner: head.toner,
+    });
+    made(table, entry, [&[], &[]], &head.output)?;
+
+    // The entries that take a length or a width and nothing else: a few calls for each round go
+    // over all of them.
+    let entry = rng.pick(&[
+        Entry::GdiWriteHead,
+        Entry::GdiWritePageEnd,
+        Entry::GdiWriteDocumentEnd,
+    ]);
+    let room = rng.index(if matches!(entry, Entry::GdiWriteHead) {
+        100
+    } else {
+        10
+    });
+    made(table, entry, [&[], &[]], &rng.bytes(room))?;
+    let width = rng.index(WIDTH_MAX + WIDTH_MAX / 16);
+    made(table, Entry::GdiLinefill { width }, [&[], &[]], &[])?;
+    Ok(())
+}
+
+/// A row that was written as a line is read back as that row.
+fn reads_back(rng: &mut Rng, width: usize, row: &[u8], line: &[u8]) -> Result<(), String> {
+    let call = Call {
+        entry: Entry::GdiReadLine {
+            offset: 0,
+            left: 0,
+            width,
+        },
+        inputs: [line, &[]],
+        buffer: &rng.bytes(row.len()),
+    };
+    let read = call.agreed()?;
+    if read.answer != Answer::Done(line.len() as u64, 0) || read.buffer != row {
+        return Err(format!(
+            "{call}\n{read}\na row that was written is not read back"
+        ));
+    }
+    Ok(())
+}
+
+#[test]
+fn library_against_reference() {
+    let mut table = Table::default();
+    let (mut drawn, mut read_back) = (0, 0);
+    rounds(ROUNDS, |rng| {
+        films(rng, &mut table, &mut drawn)?;
+        jobs(rng, &mut table)?;
+        writers(rng, &mut table, &mut read_back)
+    });
+    println!("{table}");
+    println!("{drawn} bands drawn of films that pass the check, {read_back} rows read back");
+    if from_environment("PRINTBOX_ROUNDS", ROUNDS) < ROUNDS {
+        return;
+    }
+    assert!(table.total() >= 1_000_000, "{} inputs", table.total());
+    for number in (1..=12).chain(21..=27) {
+        assert!(
+            table.refused(number) >= 100,
+            "number {number}: {}",
+            table.refused(number)
+        );
+    }
+    assert_eq!(table.refused(28), 0, "no row has a run over 16,383 dots");
+    for (name, done) in table.done() {
+        assert!(done >= 100, "{name} done: {done}");
+    }
+    assert!(table.page_ends() >= 100, "page ends: {}", table.page_ends());
+}
+
+/// A row of a width: noise, or runs of some length.
+fn row(rng: &mut Rng, width: usize) -> Vec<u8> {
+    let bytes = row_bytes(width);
+    let mut row = vec![0; bytes];
+    if rng.one_in(3) {
+        row = rng.bytes(bytes);
+    } else {
+        let longest = rng.pick(&[2, 20, 70, 600, 20_000]);
+        let (mut from, mut black) = (0, rng.one_in(2));
+        while from < width {
+            let to = width.min(from + 1 + rng.index(longest));
+            for f in (from..to).filter(|_| black) {
+                row[f / 8] |= 0x80 >> (f % 8);
+            }
+            (from, black) = (to, !black);
+        }
+    }
+    row[bytes - 1] &= 0xFF << (8 * bytes - width);
+    row
+}
+
+/// Appends what an entry writes, which is not refused.
+fn append(job: &mut Vec<u8>, entry: Entry, row: &[u8], room: usize) -> Result<(), String> {
+    let call = Call {
+        entry,
+        inputs: [row, &[]],
+        buffer: &vec![0xEE; room],
+    };
+    let outcome = call.agreed()?;
+    match outcome.answer {
+        Answer::Done(length, 0) => job.extend_from_slice(&outcome.buffer[..length as usize]),
+        _ => return Err(format!("{call}\n{outcome}\na writer refused")),
+    }
+    Ok(())
+}
+
+/// Whole jobs: written, checked, and read back line by line.
+#[test]
+fn written_jobs_read_back() {
+    let (mut jobs, mut lines) = (0, 0);
+    rounds(2_000, |rng| {
+        let mut pages = Vec::new();
+        let mut job = Vec::new();
+        append(&mut job, Entry::GdiWriteHead, &[], 86)?;
+        for _ in 0..rng.index(4) {
+            let greatest = rng.pick(&[9, 70, 300, 5_000, WIDTH_MAX]);
+            let width = 1 + rng.index(greatest);
+            let rows: Vec<Vec<u8>> = (0..1 + rng.index(6)).map(|_| row(rng, width)).collect();
+            let head = PageHead {
+                tray: rng.bits() as u32,
+                width: width as u16,
+                height: rows.len() as u16,
+                format: rng.byte(),
+                paper_type: rng.byte(),
+                copies: rng.byte(),
+                toner: rng.index(2) as u8,
+            };
+            append(&mut job, Entry::GdiWritePageHead(head), &[], 21)?;
+            let first_line = job.len();
+            for row in &rows {
+                append(&mut job, Entry::GdiWriteRow { width }, row, row_room(width))?;
+            }
+            append(&mut job, Entry::GdiWritePageEnd, &[], 6)?;
+            pages.push((width, rows, first_line));
+        }
+        append(&mut job, Entry::GdiWriteDocumentEnd, &[], 6)?;
+
+        let check = Call {
+            entry: Entry::GdiCheck,
+            inputs: [&job, &[]],
+            buffer: &[],
+        };
+        let outcome = check.agreed()?;
+        if outcome.answer != Answer::Done(pages.len() as u64, 0) {
+            return Err(format!(
+                "{check}\n{outcome}\na job that was written does not pass"
+            ));
+        }
+        for (width, rows, first_line) in &pages {
+            lines += read_page(&job, *width, rows, *first_line)?;
+        }
+        jobs += 1;
+        Ok(())
+    });
+    println!("{jobs} jobs of {lines} lines written and read back");
+}
+
+/// Reads a page's lines and its page end, and holds them against its rows. Answers the lines.
+fn read_page(
+    job: &[u8],
+    width: usize,
+    rows: &[Vec<u8>],
+    first_line: usize,
+) -> Result<usize, String> {
+    let (mut offset, mut left) = (first_line, 0);
+    let untouched = vec![0xEE; row_bytes(width)];
+    for line in 0..=rows.len() {
+        let entry = Entry::GdiReadLine {
+            offset,
+            left,
+            width,
+        };
+        let call = Call {
+            entry,
+            inputs: [job, &[]],
+            buffer: &untouched,
+        };
+        let read = call.agreed()?;
+        let next = match (read.answer, rows.get(line)) {
+            (Answer::Done(offset, left), Some(row)) if read.buffer == *row => (offset, left),
+            (Answer::PageEnd(offset, left), None) if read.buffer == untouched => (offset, left),
+            _ => {
+                return Err(format!(
+                    "{call}\n{read}\nline {line} is not what was written"
+                ))
+            }
+        };
+        (offset, left) = (next.0 as usize, next.1 as usize);
+    }
+    Ok(rows.len())
+}
