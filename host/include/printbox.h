@@ -96,8 +96,12 @@ extern "C" {
 #define PRINTBOX_FILM_ROW_BYTES(dots) (((size_t)(dots) + 15) / 16 * 2)
 #define PRINTBOX_GDI_ROW_BYTES(width) (((size_t)(width) + 7) / 8)
 
-/* A length of output that is enough for gdi_write_row on any row of an admitted width. */
-#define PRINTBOX_GDI_ROW_ROOM(width) ((size_t)(width) + 6 * ((size_t)(width) / 254 + 1))
+/*
+ * A length of output that is enough for gdi_write_row on any row of an admitted width, which is
+ * proved: a byte for each dot, and the six bytes of a block's head for each 255 of them, rounded
+ * up.
+ */
+#define PRINTBOX_GDI_ROW_ROOM(width) ((size_t)(width) + 6 * (((size_t)(width) + 254) / 255))
 
 /*
  * Checks a sheet with its load.

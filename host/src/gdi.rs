@@ -49,21 +49,21 @@ pub const fn row_bytes(width: usize) -> usize {
     width.div_ceil(8)
 }
 
-/// A length of output that is enough for [`write_row`] on any row of so many dots.
+/// A length of output that is enough for [`write_row`] on any row of so many dots: a byte for each
+/// dot, and the six bytes of a block's head for each 255 of them, rounded up.
 ///
-/// A run of less than 64 dots is written in one byte and a longer one in two, so the commands take
-/// no more bytes than the row has dots. A block has a head of 6 bytes, and at least 254 bytes of
-/// commands unless it is the last.
+/// That it is enough for every row which the writer takes is proved, as `RoomForRow` in
+/// crates/gdi/specs/Room.antt. A row of dots that are black and white in turn needs all of it.
 ///
 /// ```
 /// # use printbox::gdi;
 /// let width = gdi::WIDTH_MAX;
 /// let row = vec![0xAA; gdi::row_bytes(width)]; // every run is one dot long
 /// let mut output = vec![0; gdi::row_room(width)];
-/// assert_eq!(gdi::write_row(width, &row, &mut output), Ok(16_383 + 65 * 6));
+/// assert_eq!(gdi::write_row(width, &row, &mut output), Ok(output.len()));
 /// ```
 pub const fn row_room(width: usize) -> usize {
-    width.saturating_add(6 * (width / 254 + 1))
+    width.saturating_add(6 * width.div_ceil(255))
 }
 
 /// Where a line of a job starts, or a page end in its place.

@@ -1,5 +1,5 @@
-//! The header and the archive in the hands of a C compiler: a C program that calls every entry, and
-//! the header as C++.
+//! The header and the archive in the hands of a C compiler: a C program that calls every entry, the
+//! header as C++, and the names that the archive brings into a program.
 
 use std::path::{Path, PathBuf};
 use std::process::{Command, Output};
@@ -8,6 +8,11 @@ use std::process::{Command, Output};
 /// in the requirements; the bytes EE beyond the rows stay, and all of them where the band is
 /// refused.
 const PRINTED: &str = "\
+limits: 16777216 65536 16383
+film rows: 2 2 4
+job parts: 86 21 6
+job rows: 1 1 2
+room: 7 261 268
 film_check: done 1 0
 film_draw: done 2 3
 00007000EEEE
@@ -28,8 +33,12 @@ gdi_check: done 1 0
 gdi_read_line: done 117 0
 the row read is the row written
 gdi_read_line: page end 123 0
+gdi_write_row: done 16773 0
+gdi_write_row: refused 27 0
 gdi_linefill: done 39498 0
 ";
+
+const ARCHIVE: &str = "../target/staticlib/libprintbox.a";
 
 fn in_host(path: &str) -> PathBuf {
     Path::new(env!("CARGO_MANIFEST_DIR")).join(path)
@@ -64,7 +73,7 @@ fn c_program_prints_what_it_should() {
         ])
         .arg(in_host("include"))
         .arg(in_host("tests/c/draw_band.c"))
-        .arg(in_host("../target/staticlib/libprintbox.a"))
+        .arg(in_host(ARCHIVE))
         .arg("-o")
         .arg(&program));
     let output = run(&mut Command::new(&program));
@@ -89,4 +98,34 @@ fn header_is_cpp_too() {
             "c++",
         ])
         .arg(in_host("include/printbox.h")));
+}
+
+/// The archive has no other names that could clash with a program's, and asks nothing of it but
+/// `memset`: it allocates no memory, and it reads and writes no file.
+#[test]
+fn archive_has_just_the_entries() {
+    let output = run(Command::new("nm")
+        .args(["--extern-only", "--format=posix"])
+        .arg(in_host(ARCHIVE)));
+    let listed = String::from_utf8_lossy(&output.stdout);
+    let mut names: Vec<String> = listed
+        .lines()
+        .filter(|line| !line.ends_with(':')) // the file that holds them
+        .map(|line| line.split(' ').take(2).collect::<Vec<_>>().join(" "))
+        .collect();
+    names.sort_unstable();
+    let expected = [
+        "film_check T",
+        "film_draw T",
+        "gdi_check T",
+        "gdi_linefill T",
+        "gdi_read_line T",
+        "gdi_write_document_end T",
+        "gdi_write_head T",
+        "gdi_write_page_end T",
+        "gdi_write_page_head T",
+        "gdi_write_row T",
+        "memset U",
+    ];
+    assert_eq!(names, expected);
 }

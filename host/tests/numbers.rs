@@ -55,6 +55,14 @@ fn write_row(width: usize, row: &[u8], room: usize) -> Answer {
     answer(Entry::GdiWriteRow { width }, [row, &[]], room)
 }
 
+/// A row whose bytes are all of one pattern, but for the spare bits.
+fn row_of(width: usize, pattern: u8) -> Vec<u8> {
+    let bytes = row_bytes(width);
+    let mut row = vec![pattern; bytes];
+    row[bytes - 1] &= 0xFF << (8 * bytes - width);
+    row
+}
+
 #[test]
 fn great_pages_and_bands() {
     assert_eq!(
@@ -119,8 +127,7 @@ fn rows_of_edge_widths_read_back() {
     ] {
         let bytes = row_bytes(width);
         for pattern in [0x00, 0xFF, 0xAA, 0x55, 0x80, 0x01, 0xF0] {
-            let mut row = vec![pattern; bytes];
-            row[bytes - 1] &= 0xFF << (8 * bytes - width);
+            let row = row_of(width, pattern);
             let wrote = agreed(
                 Entry::GdiWriteRow { width },
                 [&row, &[]],
@@ -168,30 +175,34 @@ fn rows_of_edge_widths_read_back() {
     }
 }
 
+/// Rows of dots in turn need all of their room, at every count of full blocks and around it.
+#[test]
+fn room_for_rows_of_dots_in_turn() {
+    for width in (1..=1_100).chain(16_060..=16_383) {
+        let room = row_room(width);
+        for pattern in [0xAA, 0x55] {
+            let row = row_of(width, pattern);
+            assert_eq!(write_row(width, &row, room), Answer::Done(room as u64, 0));
+            assert_eq!(write_row(width, &row, room - 1), Answer::Refused(27, 0));
+        }
+    }
+}
+
 /// The widest row has the longest run that a command can say, so no row meets number 28.
 #[test]
 fn longest_run() {
-    let mut row = vec![0xFF; row_bytes(16_383)];
-    row[2047] = 0xFE;
-    let black = agreed(
-        Entry::GdiWriteRow { width: 16_383 },
-        [&row, &[]],
-        &[0xEE; 8],
-    );
-    assert_eq!(
-        (black.answer, &black.buffer[..]),
-        (Answer::Done(8, 0), &[0x12, 0, 2, 0, 0, 0, 0xFF, 0xFF][..])
-    );
-    row.fill(0);
-    let white = agreed(
-        Entry::GdiWriteRow { width: 16_383 },
-        [&row, &[]],
-        &[0xEE; 8],
-    );
-    assert_eq!(
-        (white.answer, &white.buffer[..]),
-        (Answer::Done(8, 0), &[0x12, 0, 2, 0, 0, 0, 0xBF, 0xFF][..])
-    );
+    for (pattern, first) in [(0xFF, 0xFF), (0x00, 0xBF)] {
+        let row = row_of(16_383, pattern);
+        let wrote = agreed(
+            Entry::GdiWriteRow { width: 16_383 },
+            [&row, &[]],
+            &[0xEE; 8],
+        );
+        assert_eq!(
+            (wrote.answer, &wrote.buffer[..]),
+            (Answer::Done(8, 0), &[0x12, 0, 2, 0, 0, 0, first, 0xFF][..])
+        );
+    }
 }
 
 #[test]

@@ -107,7 +107,7 @@ fn filter() -> Option<PathBuf> {
         return Some(path);
     }
     println!(
-        "skipped: {} is not there; Debian's printer-driver-sag-gdi has it",
+        "skipped what needs the filter: {} is not there; Debian's printer-driver-sag-gdi has it",
         path.display()
     );
     None

@@ -31,7 +31,7 @@ use Rattle.gdi.proofs.Rows.{Some, runs-dot, runs-some, dotSum, runs-sum
 -- ---- the line that is written
 
 -- the bytes of blocks, end to end
-abbrev bytesOf : List (List ℕ) → List ℕ
+abbrev pub bytesOf : List (List ℕ) → List ℕ
 bytesOf bs = joined (map blockBytes bs)
 
 -- what is written of commands from a place in a block on that holds n bytes before it: the block's bytes, then the blocks after it
@@ -147,12 +147,12 @@ row-line width row rest st p h = go (runs width row) (runs-sum (dotAt row) 0 wid
 -- ---- a row
 
 -- what the writer asks of a row
-record Taken (width : ℕ) (row : List ℕ) : Type 0 where
-  wide : admitted width ≡ true
-  long : length row ≡ rowLength width
-  clear : spareClear row width ≡ true
+pub record Taken (width : ℕ) (row : List ℕ) : Type 0 where
+  pub wide : admitted width ≡ true
+  pub long : length row ≡ rowLength width
+  pub clear : spareClear row width ≡ true
 
-row-taken : (width : ℕ) (row : List ℕ) → TakesRow width row → Taken width row
+pub row-taken : (width : ℕ) (row : List ℕ) → TakesRow width row → Taken width row
 unfolding rowWriting
 row-taken width row t =
     let h =

@@ -27,7 +27,7 @@ pub use writers::{
     gdi_write_row,
 };
 
-/// What an operation answers, as the requirements counts it.
+/// What an operation answers, as the requirements count it.
 #[derive(Clone, Copy, Debug, PartialEq, Eq)]
 pub enum Answer {
     /// Done: the two values of the operation (the second is 0 where it has only one).

@@ -1,6 +1,7 @@
 /*
  * Draws the two bands of the listing sheet, gets a refusal, and calls every other entry of the
- * library. Each call prints the entry with its answer, and where it wrote bytes, these.
+ * library. Each call prints the entry with its answer, and where it wrote bytes, these; before them
+ * the header's sizes are printed.
  */
 
 #include <printbox.h>
@@ -23,13 +24,32 @@ static const uint8_t sheet[] = {
 /* The empty load: the count 0 alone. */
 static const uint8_t load[] = {0, 0, 0, 0};
 
+/* Prints the limits, and the bytes of rows and of room at widths where they change. */
+static void print_sizes(void)
+{
+    printf("limits: %d %d %d\n", PRINTBOX_FILE_BYTES, PRINTBOX_BAND_BYTES, PRINTBOX_GDI_WIDTH);
+    printf("film rows: %zu %zu %zu\n", PRINTBOX_FILM_ROW_BYTES(1), PRINTBOX_FILM_ROW_BYTES(16),
+           PRINTBOX_FILM_ROW_BYTES(17));
+    printf("job parts: %d %d %d\n", PRINTBOX_GDI_HEAD_BYTES, PRINTBOX_GDI_PAGE_HEAD_BYTES,
+           PRINTBOX_GDI_END_BYTES);
+    printf("job rows: %zu %zu %zu\n", PRINTBOX_GDI_ROW_BYTES(1), PRINTBOX_GDI_ROW_BYTES(8),
+           PRINTBOX_GDI_ROW_BYTES(9));
+    printf("room: %zu %zu %zu\n", PRINTBOX_GDI_ROW_ROOM(1), PRINTBOX_GDI_ROW_ROOM(255),
+           PRINTBOX_GDI_ROW_ROOM(256));
+}
+
 static void print_answer(const char *entry, const uint64_t answer[3])
 {
-    static const char *const kinds[] = {"done", "refused", "page end"};
-    const char *kind = answer[0] <= PRINTBOX_PAGE_END ? kinds[answer[0]] : "no kind";
+    const char *kind = "no kind";
     unsigned long long a = answer[1];
     unsigned long long b = answer[2];
 
+    if (answer[0] == PRINTBOX_DONE)
+        kind = "done";
+    else if (answer[0] == PRINTBOX_REFUSED)
+        kind = "refused";
+    else if (answer[0] == PRINTBOX_PAGE_END)
+        kind = "page end";
     printf("%s: %s %llu %llu\n", entry, kind, a, b);
 }
 
@@ -57,10 +77,11 @@ static void draw(size_t page, size_t band)
 /* Writes a job of one page with one row and reads it back: A5, the row's first half black. */
 static void write_and_read(void)
 {
-    enum { WIDTH = 3298, ROW_BYTES = (WIDTH + 7) / 8 };
-    static uint8_t row[ROW_BYTES];
-    static uint8_t read[ROW_BYTES];
-    uint8_t job[200];
+    enum { WIDTH = 3298 };
+    static uint8_t row[PRINTBOX_GDI_ROW_BYTES(WIDTH)];
+    static uint8_t read[PRINTBOX_GDI_ROW_BYTES(WIDTH)];
+    static uint8_t job[PRINTBOX_GDI_HEAD_BYTES + PRINTBOX_GDI_PAGE_HEAD_BYTES
+                       + PRINTBOX_GDI_ROW_ROOM(WIDTH) + 2 * PRINTBOX_GDI_END_BYTES];
     uint64_t answer[3];
     size_t end = 0;
     size_t line;
@@ -107,16 +128,32 @@ static void write_and_read(void)
     print_answer("gdi_read_line", answer);
 }
 
+/* Writes the row that needs most room: the widest, its dots black and white in turn. */
+static void write_longest(void)
+{
+    static uint8_t row[PRINTBOX_GDI_ROW_BYTES(PRINTBOX_GDI_WIDTH)];
+    static uint8_t output[PRINTBOX_GDI_ROW_ROOM(PRINTBOX_GDI_WIDTH)];
+    uint64_t answer[3];
+
+    memset(row, 0xAA, sizeof row);
+    gdi_write_row(PRINTBOX_GDI_WIDTH, row, sizeof row, output, sizeof output, answer);
+    print_answer("gdi_write_row", answer);
+    gdi_write_row(PRINTBOX_GDI_WIDTH, row, sizeof row, output, sizeof output - 1, answer);
+    print_answer("gdi_write_row", answer);
+}
+
 int main(void)
 {
     uint64_t answer[3];
 
+    print_sizes();
     film_check(sheet, sizeof sheet, load, sizeof load, answer);
     print_answer("film_check", answer);
     draw(0, 0);
     draw(0, 1);
     draw(0, 2);
     write_and_read();
+    write_longest();
     gdi_linefill(4762, answer);
     print_answer("gdi_linefill", answer);
     return 0;
