@@ -25,6 +25,8 @@
  *   PRINTBOX_PAGE_END  gdi_read_line only: the page end stands where a line would start. a and b
  *                      are the next place.
  *
+ * The refusals that are named at an entry are all that it gives; that is proved.
+ *
  * A refused call changes no byte of buffer, row or output. A call that is done writes their first
  * bytes, and those beyond what is written stay. The bytes of an input always stay.
  *
@@ -135,7 +137,9 @@ void gdi_check(const uint8_t *job, size_t job_length, uint64_t answer[3]);
 /*
  * Reads the line that starts at a place: a byte of the job, and the bytes that are left of the
  * block which holds it, 0 between blocks. The row has exactly PRINTBOX_GDI_ROW_BYTES(width); a
- * black dot is 1. Heads are not looked at, and lines are not counted.
+ * black dot is 1. Heads are not looked at, and lines are not counted. On a job that the check
+ * passes, start after a page head with left 0 and go on at each place that was answered, with the
+ * head's width: as many lines are read as its height says, then the page end, and none is refused.
  * Done: the row is written; a and b are the next place, offset and left.
  * Page end: the row stays; a and b are the place after the page end.
  * Refusals: 1, 23, 24, 25, 27.

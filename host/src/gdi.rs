@@ -115,7 +115,10 @@ pub fn check(job: &[u8]) -> Result<usize, Refusal> {
 
 /// Reads the line that starts at a place into a row of exactly [`row_bytes`] of the width.
 ///
-/// It goes by the place alone: heads are not looked at, and lines are not counted.
+/// It goes by the place alone: heads are not looked at, and lines are not counted. On a job that the
+/// check passes, start after a page head with `left` 0 and go on at each place that was answered,
+/// with the head's width: as many lines are read as its height says, then the page end, and none is
+/// refused. That is proved, as `ReadThrough` in crates/gdi/specs/ReadingThrough.antt.
 ///
 /// # Errors
 ///

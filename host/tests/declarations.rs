@@ -1,9 +1,14 @@
 //! The entries are declared three times: in the proved library, which decides, in the C header and
 //! for Rust. Here the latter two are held against the first, so that none can differ in a type or
-//! in the order of its parameters.
+//! in the order of its parameters; and the refusals that the header names for each entry against
+//! those that are proved to be all.
+
+mod common;
+
+use common::header::{refusals, HEADER};
 
 const PROVED: &str = include_str!("../../crates/printbox/src/lib.rt");
-const HEADER: &str = include_str!("../include/printbox.h");
+const PROVED_REFUSALS: &str = include_str!("../../crates/refusals/specs/Refusals.antt");
 const RUST: &str = include_str!("../src/ffi.rs");
 
 /// What stands between two texts, wherever the first does.
@@ -79,4 +84,26 @@ fn rust_declares_what_is_proved() {
     let block = between(RUST, "extern \"C\" {", "}").next();
     let block = block.expect("the block of the entries");
     assert_eq!(declared(block, "pub fn "), expected);
+}
+
+/// The refusals of an entry in the proved statement: `gives` with the name of a list, which is
+/// written as `1 ∷ 2 ∷ []`.
+fn proved_refusals(entry: &str) -> Vec<usize> {
+    let field = format!("\n  pub {} :", entry.replace('_', "-"));
+    let field = between(PROVED_REFUSALS, &field, "≡ true").next();
+    let list = between(field.expect("the entry"), "gives ", " ").next();
+    let list = format!("\n{} = ", list.expect("the list's name"));
+    let list = between(PROVED_REFUSALS, &list, "[]").next();
+    list.expect("the list")
+        .split_terminator(" ∷ ")
+        .map(|number| number.parse().expect("a number"))
+        .collect()
+}
+
+#[test]
+fn header_names_the_proved_refusals() {
+    for signature in between(PROVED, "pub extern \"C\" fn ", ")\n") {
+        let (entry, _) = parts(signature);
+        assert_eq!(refusals(&entry), proved_refusals(&entry), "{entry}");
+    }
 }

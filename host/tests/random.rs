@@ -7,6 +7,7 @@
 
 mod common;
 
+use common::header::refusals;
 use common::table::Table;
 use common::{Answer, Call, Entry, Outcome};
 use generate::{Film, Rng};
@@ -121,10 +122,14 @@ fn draw_whole(rng: &mut Rng, film: &Film, pages: usize) -> Result<u64, String> {
     Ok(order.len() as u64)
 }
 
-fn jobs(rng: &mut Rng, table: &mut Table) -> Result<(), String> {
+fn jobs(rng: &mut Rng, table: &mut Table, read: &mut u64) -> Result<(), String> {
     let job = generate::job(rng);
     let inputs = [&job[..], &[]];
-    made(table, Entry::GdiCheck, inputs, &[])?;
+    let check = made(table, Entry::GdiCheck, inputs, &[])?;
+    if let Answer::Done(pages, 0) = check.answer {
+        let pages = read_through(&job, pages)?;
+        *read += pages.iter().map(Vec::len).sum::<usize>() as u64;
+    }
     for _ in 0..3 {
         let generate::Line {
             offset,
@@ -144,6 +149,55 @@ fn jobs(rng: &mut Rng, table: &mut Table) -> Result<(), String> {
         )?;
     }
     Ok(())
+}
+
+/// The rows of each page of a job that passes the check. None may be refused, each page has as many
+/// lines as its head says, and the document end stands after the last.
+fn read_through(job: &[u8], pages: u64) -> Result<Vec<Vec<Vec<u8>>>, String> {
+    let mut page = 86;
+    let mut read = Vec::new();
+    for _ in 0..pages {
+        let number =
+            |at: usize| usize::from(u16::from_le_bytes([job[page + at], job[page + at + 1]]));
+        let (width, height) = (number(12), number(14));
+        let (mut offset, mut left) = (page + 21, 0);
+        let untouched = vec![0xEE; row_bytes(width)];
+        let mut rows = Vec::new();
+        loop {
+            let entry = Entry::GdiReadLine {
+                offset,
+                left,
+                width,
+            };
+            let call = Call {
+                entry,
+                inputs: [job, &[]],
+                buffer: &untouched,
+            };
+            let outcome = call.agreed()?;
+            let lines = rows.len();
+            match outcome.answer {
+                Answer::Done(next, rest) if lines < height => {
+                    (offset, left) = (next as usize, rest as usize);
+                    rows.push(outcome.buffer);
+                }
+                Answer::PageEnd(next, 0) if lines == height && outcome.buffer == untouched => {
+                    page = next as usize;
+                    break;
+                }
+                _ => {
+                    return Err(format!(
+                        "{call}\n{outcome}\nafter {lines} of {height} lines"
+                    ))
+                }
+            }
+        }
+        read.push(rows);
+    }
+    if job[page..] != [0x14, 0, 0, 0, 0, 0] {
+        return Err(format!("no document end at {page} of {job:02x?}"));
+    }
+    Ok(read)
 }
 
 fn writers(rng: &mut Rng, table: &mut Table, read_back: &mut u64) -> Result<(), String> {
@@ -208,14 +262,15 @@ fn reads_back(rng: &mut Rng, width: usize, row: &[u8], line: &[u8]) -> Result<()
 #[test]
 fn library_against_reference() {
     let mut table = Table::default();
-    let (mut drawn, mut read_back) = (0, 0);
+    let (mut drawn, mut read, mut read_back) = (0, 0, 0);
     rounds(ROUNDS, |rng| {
         films(rng, &mut table, &mut drawn)?;
-        jobs(rng, &mut table)?;
+        jobs(rng, &mut table, &mut read)?;
         writers(rng, &mut table, &mut read_back)
     });
     println!("{table}");
-    println!("{drawn} bands drawn of films that pass the check, {read_back} rows read back");
+    println!("{drawn} bands drawn of films and {read} lines read of jobs that pass the check");
+    println!("{read_back} rows read back");
     if from_environment("PRINTBOX_ROUNDS", ROUNDS) < ROUNDS {
         return;
     }
@@ -227,7 +282,12 @@ fn library_against_reference() {
             table.refused(number)
         );
     }
-    assert_eq!(table.refused(28), 0, "no row has a run over 16,383 dots");
+    // Each entry gave just the refusals that the header names for it; but no job here is too long.
+    for (name, given) in table.refusals() {
+        let mut named = refusals(name);
+        named.retain(|&number| number != 1 || name.starts_with("film"));
+        assert_eq!(given, named, "{name}");
+    }
     for (name, done) in table.done() {
         assert!(done >= 100, "{name} done: {done}");
     }
@@ -292,12 +352,12 @@ fn written_jobs_read_back() {
                 toner: rng.index(2) as u8,
             };
             append(&mut job, Entry::GdiWritePageHead(head), &[], 21)?;
-            let first_line = job.len();
             for row in &rows {
                 append(&mut job, Entry::GdiWriteRow { width }, row, row_room(width))?;
             }
             append(&mut job, Entry::GdiWritePageEnd, &[], 6)?;
-            pages.push((width, rows, first_line));
+            lines += rows.len();
+            pages.push(rows);
         }
         append(&mut job, Entry::GdiWriteDocumentEnd, &[], 6)?;
 
@@ -312,46 +372,13 @@ fn written_jobs_read_back() {
                 "{check}\n{outcome}\na job that was written does not pass"
             ));
         }
-        for (width, rows, first_line) in &pages {
-            lines += read_page(&job, *width, rows, *first_line)?;
+        if read_through(&job, pages.len() as u64)? != pages {
+            return Err(format!(
+                "{check}\na job that was written is not read back: {pages:02x?}"
+            ));
         }
         jobs += 1;
         Ok(())
     });
     println!("{jobs} jobs of {lines} lines written and read back");
-}
-
-/// Reads a page's lines and its page end, and holds them against its rows. Answers the lines.
-fn read_page(
-    job: &[u8],
-    width: usize,
-    rows: &[Vec<u8>],
-    first_line: usize,
-) -> Result<usize, String> {
-    let (mut offset, mut left) = (first_line, 0);
-    let untouched = vec![0xEE; row_bytes(width)];
-    for line in 0..=rows.len() {
-        let entry = Entry::GdiReadLine {
-            offset,
-            left,
-            width,
-        };
-        let call = Call {
-            entry,
-            inputs: [job, &[]],
-            buffer: &untouched,
-        };
-        let read = call.agreed()?;
-        let next = match (read.answer, rows.get(line)) {
-            (Answer::Done(offset, left), Some(row)) if read.buffer == *row => (offset, left),
-            (Answer::PageEnd(offset, left), None) if read.buffer == untouched => (offset, left),
-            _ => {
-                return Err(format!(
-                    "{call}\n{read}\nline {line} is not what was written"
-                ))
-            }
-        };
-        (offset, left) = (next.0 as usize, next.1 as usize);
-    }
-    Ok(rows.len())
 }

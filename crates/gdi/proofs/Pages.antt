@@ -126,6 +126,22 @@ unfolding next group
 next-nil full m zero = refl
 next-nil full m (suc left) = refl
 
+-- the page ends only where it may
+gap-end : (m : Bool) (n : ℕ) (g : Group) → inGap m n g ≡ toEnd → m ≡ true
+gap-end m n cut e = never (cc)
+gap-end m n (pageHead w v) e = never (cc)
+gap-end m n wrongPageHead e = never (cc)
+gap-end m n (block size) e = never (cc)
+gap-end true n pageEnd e = refl
+gap-end false n pageEnd e = never (cc)
+gap-end m n documentEnd e = never (cc)
+gap-end m n unknown e = never (cc)
+
+pub next-end-may : (full m : Bool) (left : ℕ) (bs : List ℕ) → next full m left bs ≡ toEnd → m ≡ true
+unfolding next
+next-end-may full m zero bs e = gap-end m (length bs) (group bs) e
+next-end-may full m (suc left) bs e = let k = next-end full m (suc left) bs e in absurd (omega arith)
+
 -- in a full page no command comes
 pub next-full : (full m : Bool) (left : ℕ) (bs : List ℕ) (c : Command) (n : ℕ) → full ≡ true → next full m left bs ≡ toCommand c n → ⊥
 unfolding next

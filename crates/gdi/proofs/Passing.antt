@@ -1,5 +1,5 @@
--- The job check passes a line as the line reader reads it. Assumes nothing.
-use mathlib.Core.Path.{_≡_, refl, sym, ap, _∙_}
+-- The job check passes a line as the line reader reads it; and the reader reads every line of a job that the check passes. Assumes nothing.
+use mathlib.Core.Path.{_≡_, refl, sym, ap, _∙_, subst}
 use mathlib.Core.Bool.{Bool, true, false, not, cond}
 use mathlib.Core.List.{List, [], _∷_}
 use Prim.Native.Nat.{ℕ, zero, suc, _+_, _-_, _<_, _≤_}
@@ -11,11 +11,12 @@ use lib.ListN.{length, drop, length-drop}
 use lib.Seq.{drop-drop}
 use Rattle.gdi.specs.Commands.{Command, dotsOf}
 use Rattle.gdi.specs.Pages.{Next, toBlock, toEnd, toCommand, fault, next}
-use Rattle.gdi.specs.Jobs.{State, inPage, onward, stepInPage, step, walk}
+use Rattle.gdi.specs.Jobs as jobs
+use Rattle.gdi.specs.Jobs.{State, inPage, onward, stepInPage, step, pages, walk}
 use Rattle.gdi.specs.Lines.{Line, line, pageEnd, refused, withCommand, lineFrom, nextLine, answerOf}
 use Rattle.gdi.proofs.Groups.{never}
-use Rattle.gdi.proofs.Pages.{next-block, next-command, next-block-any, next-command-any}
-use Rattle.gdi.proofs.Jobs.{walk-onward}
+use Rattle.gdi.proofs.Pages.{next-block, next-command, next-end-may, next-block-any, next-command-any}
+use Rattle.gdi.proofs.Jobs.{walk-onward, walk-stop}
 use Rattle.gdi.proofs.Lines.{line-block, line-end, line-last, line-command, line-fault}
 
 -- a command in front leaves the place after the line
@@ -66,50 +67,89 @@ module _ (n width height lines : ℕ) (h : lines < height) where
         walks = e ∙ r .walks ∙ ap (λ (l : List ℕ). walk (whole left′) 0 q l) (drop-drop (q - (p + k)) k bs ∙ ap (λ (i : ℕ). drop i bs) m);
       }
 
+  -- what reader and walk meet from p on: a line, which is read and passed; or the walk is refused, and no line is read
+  data Meets (st : Bool) (sum left p : ℕ) (bs : List ℕ) : Type 0 where
+    a-line : (q left′ : ℕ) → answerOf (lineFrom width st sum left 0 p bs) ≡ nextLine q left′ → Passes sum left p bs q left′ → Meets st sum left p bs
+    no-line : (number place : ℕ) → walk (within sum left) 0 p bs ≡ jobs.refused number place
+        → ((q left′ : ℕ) → answerOf (lineFrom width st sum left 0 p bs) ≡ nextLine q left′ → ⊥) → Meets st sum left p bs
+
+  -- they meet it where they do after k bytes
+  meet-on : (st st′ : Bool) (sum left sum′ left″ k p : ℕ) (bs : List ℕ) → k ≤ length bs
+      → walk (within sum left) 0 p bs ≡ walk (within sum′ left″) 0 (p + k) (drop k bs)
+      → answerOf (lineFrom width st sum left 0 p bs) ≡ answerOf (lineFrom width st′ sum′ left″ 0 (p + k) (drop k bs))
+      → Meets st′ sum′ left″ (p + k) (drop k bs) → Meets st sum left p bs
+  meet-on st st′ sum left sum′ left″ k p bs l e f (a-line q left′ a r) = a-line q left′ (f ∙ a) (pass-on sum left sum′ left″ k p bs q left′ l e r)
+  meet-on st st′ sum left sum′ left″ k p bs l e f (no-line number place w n) = no-line number place (e ∙ w) (λ q left′ a. n q left′ (sym f ∙ a))
+
   -- by the number of bytes that the job has from p on
-  pass : (bound : ℕ) (st : Bool) (sum left p : ℕ) (bs : List ℕ) (q left′ : ℕ) → length bs ≤ bound
-      → answerOf (lineFrom width st sum left 0 p bs) ≡ nextLine q left′ → Passes sum left p bs q left′
-  unfolding lineFrom
-  pass zero st sum left p [] q left′ l e = never (cc)
-  pass zero st sum left p (b ∷ bs) q left′ l e = absurd (omega arith)
-  pass (suc bound) st sum left p bs q left′ l e = go (λ st sum left p bs. pass bound st sum left p bs q left′) (next false (not st) left bs) refl
+  meet : (bound : ℕ) (st : Bool) (sum left p : ℕ) (bs : List ℕ) → length bs ≤ bound → Meets st sum left p bs
+  unfolding lineFrom walk
+  meet zero st sum left p [] l = no-line 24 p refl (λ q left′ a. never (cc))
+  meet zero st sum left p (b ∷ bs) l = absurd (omega arith)
+  meet (suc bound) st sum left p bs l = go (meet bound) (next false false left bs) refl
     where
       Rest : Type 0
-      Rest = (st : Bool) (sum left p : ℕ) (bs : List ℕ) → length bs ≤ bound → answerOf (lineFrom width st sum left 0 p bs) ≡ nextLine q left′ → Passes sum left p bs q left′
+      Rest = (st : Bool) (sum left p : ℕ) (bs : List ℕ) → length bs ≤ bound → Meets st sum left p bs
 
-      at-command : Rest → (c : Command) (k : ℕ) → next false (not st) left bs ≡ toCommand c k → Dec (sum + dotsOf c < width) → Passes sum left p bs q left′
+      at-command : Rest → (c : Command) (k : ℕ) → next false false left bs ≡ toCommand c k → Dec (sum + dotsOf c < width) → Meets st sum left p bs
       at-command rest c k f (yes m) =
-          let known = next-command false (not st) left bs c k f in
-          let on = walk-command sum left p bs c k (next-command-any false (not st) false left bs c k f) false (lt-leb width (sum + dotsOf c) m) in
+          let known = next-command false false left bs c k f in
+          let on = walk-command sum left p bs c k f false (lt-leb width (sum + dotsOf c) m) in
           let after = lineFrom width true (sum + dotsOf c) (left - k) 0 (p + k) (drop k bs) in
-          pass-on sum left (sum + dotsOf c) (left - k) k p bs q left′ (omega arith) on
-          (rest true (sum + dotsOf c) (left - k) (p + k) (drop k bs) (omega (arith, length-drop k bs))
-          (sym (ap answerOf (line-command width st sum left p bs c k f m) ∙ answer-with c after) ∙ e))
+          meet-on st true sum left (sum + dotsOf c) (left - k) k p bs (omega arith) on
+          (ap answerOf (line-command width st sum left p bs c k (next-command-any false false (not st) left bs c k f) m) ∙ answer-with c after)
+          (rest true (sum + dotsOf c) (left - k) (p + k) (drop k bs) (omega (arith, length-drop k bs)))
       at-command rest c k f (no m) =
-          let known = next-command false (not st) left bs c k f in
-          let on = walk-command sum left p bs c k (next-command-any false (not st) false left bs c k f) true (le-leb width (sum + dotsOf c) (omega arith)) in
-          let a = ap answerOf (line-last width st sum left p bs c k f (omega arith)) in
-          let at : p + k ≡ q = cc in
-          let of : left - k ≡ left′ = cc in
-          let m : k ≡ q - p = omega arith in
-          record {
-            after = omega arith;
-            there = omega arith;
-            walks = on ∙ rw (at, of, m) refl;
-          }
+          let known = next-command false false left bs c k f in
+          let on = walk-command sum left p bs c k f true (le-leb width (sum + dotsOf c) (omega arith)) in
+          let i : p + k - p ≡ k = omega arith in
+          a-line (p + k) (left - k)
+          (ap answerOf (line-last width st sum left p bs c k (next-command-any false false (not st) left bs c k f) (omega arith)))
+          (record { after = omega arith; there = omega arith; walks = on ∙ rw i refl })
 
-      go : Rest → (x : Next) → next false (not st) left bs ≡ x → Passes sum left p bs q left′
+      -- where the walk is refused the reader may be at the page's end
+      no-next : (number i : ℕ) → next false false left bs ≡ fault number i → (x : Next) → next false (not st) left bs ≡ x → (q left′ : ℕ)
+          → answerOf (lineFrom width st sum left 0 p bs) ≡ nextLine q left′ → ⊥
+      no-next number i f (toBlock size) g q left′ a = never (cc (next-block-any false (not st) false left bs size g))
+      no-next number i f toEnd g q left′ a = never (cc (line-end width st sum left p bs g))
+      no-next number i f (toCommand c k) g q left′ a = never (cc (next-command-any false (not st) false left bs c k g))
+      no-next number i f (fault n j) g q left′ a = never (cc (line-fault width st sum left p bs n j g))
+
+      go : Rest → (x : Next) → next false false left bs ≡ x → Meets st sum left p bs
       go rest (toBlock size) f =
-          let known = next-block false (not st) left bs size f in
-          pass-on sum left sum size 6 p bs q left′ (omega arith)
-          (walk-onward (within sum left) (within sum size) 6 p bs
-          (step-within sum left bs (toBlock size) (next-block-any false (not st) false left bs size f)))
-          (rest st sum size (p + 6) (drop 6 bs) (omega (arith, length-drop 6 bs)) (sym (ap answerOf (line-block width st sum left p bs size f)) ∙ e))
-      go rest toEnd f = never (cc (line-end width st sum left p bs f))
+          let known = next-block false false left bs size f in
+          meet-on st st sum left sum size 6 p bs (omega arith)
+          (walk-onward (within sum left) (within sum size) 6 p bs (step-within sum left bs (toBlock size) f))
+          (ap answerOf (line-block width st sum left p bs size (next-block-any false false (not st) left bs size f)))
+          (rest st sum size (p + 6) (drop 6 bs) (omega (arith, length-drop 6 bs)))
+      go rest toEnd f = never (cc (next-end-may false false left bs f))
       go rest (toCommand c k) f = at-command rest c k f (decLt (sum + dotsOf c) width)
-      go rest (fault number i) f = never (cc (line-fault width st sum left p bs number i f))
+      go rest (fault number i) f =
+          no-line number (p + i) (walk-stop (within sum left) number i p bs (step-within sum left bs (fault number i) f))
+          (no-next number i f (next false (not st) left bs) refl)
 
   -- the line that the reader reads at p is passed
   pub line-passed : (st : Bool) (sum left p : ℕ) (bs : List ℕ) (q left′ : ℕ) → answerOf (lineFrom width st sum left 0 p bs) ≡ nextLine q left′
       → Passes sum left p bs q left′
-  line-passed st sum left p bs q left′ = pass (length bs) st sum left p bs q left′ (omega arith)
+  line-passed st sum left p bs q left′ e = go (meet (length bs) st sum left p bs (omega arith))
+    where
+      go : Meets st sum left p bs → Passes sum left p bs q left′
+      go (a-line q₀ left₀ a r) =
+          let at : q₀ ≡ q = cc in
+          let of : left₀ ≡ left′ = cc in
+          subst (λ (x : ℕ). Passes sum left p bs x left′) at (subst (λ (x : ℕ). Passes sum left p bs q₀ x) of r)
+      go (no-line number place w n) = absurd (n q left′ e)
+
+  -- a line is read at p
+  pub record Reads (st : Bool) (sum left p : ℕ) (bs : List ℕ) : Type 0 where
+    pub to : ℕ
+    pub rest : ℕ
+    pub is : answerOf (lineFrom width st sum left 0 p bs) ≡ nextLine to rest
+
+  -- where the walk from p on comes to the job's end
+  pub line-read : (st : Bool) (sum left p : ℕ) (bs : List ℕ) (k : ℕ) → walk (within sum left) 0 p bs ≡ pages k → Reads st sum left p bs
+  line-read st sum left p bs k e = go (meet (length bs) st sum left p bs (omega arith))
+    where
+      go : Meets st sum left p bs → Reads st sum left p bs
+      go (a-line q left′ a r) = record { to = q; rest = left′; is = a }
+      go (no-line number place w n) = never (cc)

@@ -179,7 +179,7 @@ runs-row width row bytes t =
     go f (no h) = rw (le-ltb f width (omega arith)) (spare-is row width .holds (t .clear) f (omega arith))
 
 -- what is read at a place of a job, where none of width, buffer, job and offset is refused
-line-at : (job : List ℕ) (offset left width n : ℕ) → admitted width ≡ true → n ≡ rowLength width → length job ≤ longest → offset ≤ length job
+pub line-at : (job : List ℕ) (offset left width n : ℕ) → admitted width ≡ true → n ≡ rowLength width → length job ≤ longest → offset ≤ length job
     → lineAt job offset left width n ≡ lineFrom width false 0 left 0 offset (drop offset job)
 unfolding lineAt
 line-at job offset left width n a e l h =

@@ -6,6 +6,7 @@ pub mod calls;
 pub mod cases;
 pub mod fenced;
 pub mod guarded;
+pub mod header;
 pub mod raster;
 pub mod table;
 

@@ -11,8 +11,7 @@ pub struct Page {
 }
 
 /// A little-endian raster file of these pages: a word that tells the version, then of each page its
-/// head of 1,796 bytes
-/// (`cups_page_header2_t`) and its rows, not compressed.
+/// head of 1,796 bytes (`cups_page_header2_t`) and its rows, not compressed.
 pub fn raster(pages: &[Page]) -> Vec<u8> {
     let mut file = b"3SaR".to_vec();
     for page in pages {

@@ -3,23 +3,18 @@
 use super::{Answer, Entry};
 use std::fmt;
 
-/// The columns: the entries by their names in the C header, what is printed above each, and the
-/// refusals that the header names for it.
-const ENTRIES: [(&str, &str, &[usize]); 10] = [
-    ("film_check", "film_check", &[1, 2, 3, 4, 5, 6, 7, 8, 9, 10]),
-    (
-        "film_draw",
-        "film_draw",
-        &[1, 2, 3, 4, 5, 6, 7, 8, 9, 11, 12],
-    ),
-    ("gdi_check", "gdi_check", &[1, 21, 22, 23, 24, 25, 26]),
-    ("gdi_read_line", "read_line", &[1, 23, 24, 25, 27]),
-    ("gdi_write_head", "head", &[27]),
-    ("gdi_write_page_head", "page_head", &[22, 27]),
-    ("gdi_write_row", "row", &[27]),
-    ("gdi_write_page_end", "page_end", &[27]),
-    ("gdi_write_document_end", "doc_end", &[27]),
-    ("gdi_linefill", "linefill", &[27]),
+/// The columns: the entries by their names in the C header, and what is printed above each.
+const ENTRIES: [(&str, &str); 10] = [
+    ("film_check", "film_check"),
+    ("film_draw", "film_draw"),
+    ("gdi_check", "gdi_check"),
+    ("gdi_read_line", "read_line"),
+    ("gdi_write_head", "head"),
+    ("gdi_write_page_head", "page_head"),
+    ("gdi_write_row", "row"),
+    ("gdi_write_page_end", "page_end"),
+    ("gdi_write_document_end", "doc_end"),
+    ("gdi_linefill", "linefill"),
 ];
 
 /// The rows: every number of a refusal, then done (0) and page end (`PAGE_END`).
@@ -36,23 +31,24 @@ pub struct Table {
 }
 
 impl Table {
-    /// Counts an answer. A refusal has to be one that the header names for the entry.
     pub fn count(&mut self, entry: Entry, answer: Answer) {
-        let column = ENTRIES
-            .iter()
-            .position(|(name, ..)| *name == entry.name())
-            .expect("an entry of the header");
-        let (name, _, refusals) = ENTRIES[column];
         let row = match answer {
             Answer::Done(..) => DONE,
             Answer::PageEnd(..) => PAGE_END,
-            Answer::Refused(number, _) => {
-                let number = number as usize;
-                assert!(refusals.contains(&number), "{name} refused {number}");
-                number
-            }
+            Answer::Refused(number, _) => number as usize,
         };
-        self.counts[row][column] += 1;
+        assert!(NUMBERS.contains(&row), "no refusal has the number {row}");
+        let column = ENTRIES.iter().position(|(name, _)| *name == entry.name());
+        self.counts[row][column.expect("an entry of the header")] += 1;
+    }
+
+    /// The refusals that each entry gave, with its name.
+    pub fn refusals(&self) -> impl Iterator<Item = (&'static str, Vec<usize>)> + '_ {
+        ENTRIES.into_iter().enumerate().map(|(column, (name, _))| {
+            let given =
+                |row: &usize| ![DONE, PAGE_END].contains(row) && self.counts[*row][column] > 0;
+            (name, NUMBERS.into_iter().filter(given).collect())
+        })
     }
 
     /// How often a number was given by all entries.
@@ -66,7 +62,7 @@ impl Table {
 
     /// How often each entry was done, with its name.
     pub fn done(&self) -> impl Iterator<Item = (&'static str, u64)> + '_ {
-        let names = ENTRIES.into_iter().map(|(name, ..)| name);
+        let names = ENTRIES.into_iter().map(|(name, _)| name);
         names.zip(self.counts[DONE])
     }
 
@@ -78,7 +74,7 @@ impl Table {
 impl fmt::Display for Table {
     fn fmt(&self, f: &mut fmt::Formatter<'_>) -> fmt::Result {
         write!(f, "{:8}", "")?;
-        for (_, heading, _) in ENTRIES {
+        for (_, heading) in ENTRIES {
             write!(f, " {heading:>10}")?;
         }
         writeln!(f, " {:>10}", "all")?;

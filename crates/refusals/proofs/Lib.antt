@@ -1,0 +1,4 @@
+-- The proof that no entry gives another refusal: of films in Films, of jobs and writers in Jobs, together in Refusals.
+pub mod Films
+pub mod Jobs
+pub mod Refusals
