@@ -3,7 +3,7 @@
 
 mod common;
 
-use common::cases::{case, Case, FILM, GDI};
+use common::cases::{case, Case, FILM, GDI, MODEL};
 use common::fenced::{FencedEnd, FencedStart};
 use std::collections::BTreeMap;
 
@@ -76,6 +76,19 @@ fn gdi() {
         ("gdi_write_page_head", 200),
     ];
     run("gdi.txt", GDI, &counts);
+}
+
+#[test]
+fn model() {
+    let counts = [
+        ("film_check", 152),
+        ("film_draw", 360),
+        ("gdi_check", 149),
+        ("gdi_read_line", 191),
+        ("gdi_write_row", 42),
+        ("gdi_write_page_head", 31),
+    ];
+    run("model.txt", MODEL, &counts);
 }
 
 /// A line that is damaged is a fault and never passes for a case.

@@ -1,4 +1,5 @@
-//! The stored cases: tests/data/film.txt and tests/data/gdi.txt, one case a line.
+//! The stored cases, one a line: tests/data/film.txt and tests/data/gdi.txt of one reading of the
+//! requirements, tests/data/model.txt of another, which has tiles and blocks that are full.
 //!
 //! Fields are split by a blank, bytes are in hexadecimal (`-` for none) and numbers in decimal;
 //! what stands after `=` is the answer. After a refusal the buffer is as it was.
@@ -18,6 +19,7 @@ use std::str::FromStr;
 
 pub const FILM: &str = include_str!("../data/film.txt");
 pub const GDI: &str = include_str!("../data/gdi.txt");
+pub const MODEL: &str = include_str!("../data/model.txt");
 
 /// A case: a call with all that it lends, and what has to come of it.
 pub struct Case {
