@@ -4,6 +4,7 @@ use mathlib.Core.Bool.{Bool, true, false, not, _||_}
 use mathlib.Core.List.{List, [], _∷_}
 use Prim.Native.Nat.{ℕ}
 use lib.Dec.{eqb}
+use lib.ListN.{getD}
 use Rattle.sheet.specs.Check.{checkAnswer}
 use Rattle.demand.specs.Draw.{drawAnswer}
 use Rattle.demand.specs.Promise.{due}
@@ -18,11 +19,9 @@ unfoldable pub among : List ℕ → ℕ → Bool
 among [] n = false
 among (m ∷ ms) n = eqb n m || among ms n
 
--- whether the three numbers of an answer are no refusal, or one with a number of the list
-unfoldable pub gives : List ℕ → List ℕ → Bool
-gives ms [] = false
-gives ms (kind ∷ []) = false
-gives ms (kind ∷ number ∷ rest) = not (eqb kind 1) || among ms number
+-- whether an answer, its kind first, is no refusal, or one whose number is of the list
+unfoldable pub gives : (ms answer : List ℕ) → Bool
+gives ms answer = not (eqb (getD answer 0 0) 1) || among ms (getD answer 1 0)
 
 -- ---- the numbers
 
