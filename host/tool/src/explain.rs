@@ -1,0 +1,62 @@
+//! `explain`: what a refusal means.
+
+use crate::arguments::{shown, Arguments};
+use crate::failure::{Failure, Outcome, Status};
+use crate::output::to_standard_output;
+
+/// What each refusal means, in a sentence.
+pub const MEANINGS: [(u8, &str); 20] = [
+    (1, "The sheet or the load has an odd number of bytes, or the sheet, the load or the job has \
+         more than 16,777,216; the place is 0."),
+    (2, "The file is no sheet: it has fewer than 12 words or does not start with the password AAAA \
+         hex (place 0), or its version is not 1 (place 1)."),
+    (3, "A number of the herald is outside its range: imageSSize and imageFSize are 1 to 32,768, \
+         bandSSize is 1 to imageSSize, copies at least 1 (the place is the number's word), and the \
+         rows of a band take at most 65,536 bytes (place 7)."),
+    (4, "The load does not go with the sheet: it has no whole count, its count is not the number \
+         of words after it, or it is over the sheet's maxLoadWords; the place is 8."),
+    (5, "The page count is 0, or a page's count of bands is not imageSSize / bandSSize, rounded \
+         up; the place is that count."),
+    (6, "The sheet ends where a count should stand (the place is the sheet's number of words), a \
+         band runs past the end of the sheet (its count), or a command runs past the end of its \
+         band (its code)."),
+    (7, "A command's code is not 1 to 10; the place is the code."),
+    (8, "A priority is over 16,777,215 or falls within its band, a tile mode is neither 0 nor 1, \
+         or a trapezoid has one row; the place is the command's code."),
+    (9, "A tile, a sample array or a run group runs past the load, or a tile has a side of 0; the \
+         place is the command's code."),
+    (10, "Words stand after the last page, which only the check looks for; the place is the first \
+          of them."),
+    (11, "The sheet has no such page or no such band; the place is 0."),
+    (12, "The buffer that was lent for a band is shorter than the band's rows; the place is 0."),
+    (21, "The job does not start with the head of a Sagem GDI job; the place is the first byte \
+          that differs."),
+    (22, "A page head has a wrong fixed byte, a width outside 1 to 16,383, the height 0, or a \
+          toner number other than 0 and 1; the place is its first byte, or 0 when it is to be \
+          written."),
+    (23, "A group of bytes stands where it may not come next; the place is its first byte."),
+    (24, "The job ends where bytes are needed (the place is its length), or the second byte of a \
+          command lies past its block (the place is the command)."),
+    (25, "A page ends inside a line or before its last line (the place is the page end), or a \
+          command stands after the last line (the place is the command)."),
+    (26, "Bytes stand after the document end; the place is the first of them."),
+    (27, "A width is outside 1 to 16,383, a row has another length than its width asks for or a \
+          spare bit set, or an output is too short; the place is 0."),
+    (28, "A row to be written has a run over 16,383 dots, which no row of an admitted width has; \
+          the place is 0."),
+];
+
+pub fn run(arguments: &Arguments) -> Outcome<Status> {
+    let given = arguments.files[0].as_os_str();
+    let meaning = MEANINGS
+        .iter()
+        .find(|(number, _)| given == &*number.to_string());
+    let Some((_, sentence)) = meaning else {
+        let given = shown(given);
+        return Err(Failure::trouble(format!(
+            "no refusal has the number {given}: they are 1 to 12 and 21 to 28"
+        )));
+    };
+    to_standard_output(|output| writeln!(output, "{sentence}"))?;
+    Ok(Status::Done)
+}
