@@ -79,7 +79,12 @@ fn check_files(
 
     let (mut passed, mut refused, mut unread) = (0, 0, 0);
     for given in &arguments.files {
-        for path in expand(given, arguments.path("--load"))? {
+        let files = expand(given, arguments.path("--load")).unwrap_or_else(|failure| {
+            unread += 1;
+            say(&failure.line.unwrap_or_default());
+            Vec::new()
+        });
+        for path in files {
             match read(&path) {
                 Ok(file) => {
                     let verdict = check(&file);

@@ -149,7 +149,22 @@ fn many_files() {
             ""
         )
     );
-    // One that can't be read keeps none of the others from being checked.
+    // A folder of nothing, or a file that can't be read, keeps none of the others from being checked.
+    let empty = folder.join("empty");
+    fs::create_dir(&empty).expect("a folder is made");
+    let empty = text(&empty);
+    assert_eq!(
+        run(&["check", &good, &empty, &good]),
+        ran(
+            2,
+            &format!(
+                "{good}: passed, 1 page of 2 bands\n\
+                 {good}: passed, 1 page of 2 bands\n\
+                 3 sheets: 2 passed, 0 refused, 1 can't be read\n"
+            ),
+            &format!("printbox: {empty}: no files in this folder\n")
+        )
+    );
     assert_eq!(
         run(&["check", &good, &missing, &bad]),
         ran(
@@ -173,8 +188,15 @@ fn no_files() {
     assert_eq!(run(&["job", "check", &missing]), ran(2, "", &not_there));
     let empty = text(&folder);
     let nothing = format!("printbox: {empty}: no files in this folder\n");
-    assert_eq!(run(&["check", &empty]), ran(2, "", &nothing));
-    assert_eq!(run(&["job", "check", &empty]), ran(2, "", &nothing));
+    let total = "0 passed, 0 refused, 1 can't be read\n";
+    assert_eq!(
+        run(&["check", &empty]),
+        ran(2, &format!("1 sheet: {total}"), &nothing)
+    );
+    assert_eq!(
+        run(&["job", "check", &empty]),
+        ran(2, &format!("1 job: {total}"), &nothing)
+    );
     // A link that leads nowhere is a file that can't be read.
     let link = folder.join("link");
     std::os::unix::fs::symlink(&missing, &link).expect("a link is made");
