@@ -2,33 +2,36 @@
  * printbox.h: the print box's library, for C and C++ programs.
  *
  * Link with libprintbox.a, which `rt staticlib printbox` builds. It draws tolerance films from
- * sheets of masks, and checks, reads and writes Sagem GDI jobs. What each entry answers is proved
- * for every input.
+ * sheets of masks, checks, reads and writes Sagem GDI jobs, and receives what a pocket gauge sends
+ * to its strip printer. What each entry answers is proved for every input.
  *
  * What a caller owes. The proofs assume it, and no entry can test it:
  *
  * - No pointer is null, at length 0 too.
  * - A pointer with a length has that many bytes behind it.
- * - `answer` is aligned room for three uint64_t.
- * - What an entry writes (buffer, row of the line reader, output, answer) overlaps nothing else
- *   that is lent to it.
+ * - `answer` is aligned room for three uint64_t, and `record` an aligned struct strip_record.
+ * - What an entry writes (buffer, row of the line reader, output, answer, record, bands, dots)
+ *   overlaps nothing else that is lent to it.
  * - Nobody writes what is lent during the call.
  *
- * Nothing else is asked. Lengths, page, band, offset, left, width and every byte of an input may be
- * anything. No entry relies on an earlier check, and none keeps anything between calls.
+ * Nothing else is asked. Lengths, page, band, offset, left, width, every byte of an input and every
+ * number of a record may be anything. No entry relies on an earlier check, and none keeps anything
+ * between calls but in the record.
  *
- * What an entry answers. It sets all three numbers of `answer`: a kind, a and b.
+ * What an entry answers. It sets all three numbers of `answer`: a kind, a and b; strip_receive
+ * returns a struct strip_answer.
  *
  *   PRINTBOX_DONE      Done. What a and b are is said at the entry; where it says one number, that
  *                      is a, and b is 0.
- *   PRINTBOX_REFUSED   Refused. a is the number of the refusal, b its place.
+ *   PRINTBOX_REFUSED   Refused. a is the number of the refusal, b its place; of strip_receive
+ *                      they are `number` and `place`.
  *   PRINTBOX_PAGE_END  gdi_read_line only: the page end stands where a line would start. a and b
  *                      are the next place.
  *
  * The refusals that are named at an entry are all that it gives; that is proved.
  *
- * A refused call changes no byte of buffer, row or output. A call that is done writes their first
- * bytes, and those beyond what is written stay. The bytes of an input always stay.
+ * A refused call changes no byte of buffer, row, output, bands or dots. A call that is done writes
+ * their first bytes, and those beyond what is written stay. The bytes of an input always stay.
  *
  * The numbers of refusals, with their places. A place is a word of the sheet or a byte of the job,
  * counted from 0.
@@ -60,6 +63,13 @@
  *   27  width outside its range, row of another length, row with a spare bit set (writer), output
  *       too short: 0
  *   28  a run over 16,383 dots: 0; no row of an admitted width has one, so it is never given
+ *   31  a packet's checksum is not the sum of its header and body: 0
+ *   32  a packet of an unknown command: 0
+ *   33  an indicator or a length that does not fit the packet's command: 0
+ *   34  a tenth band: 0
+ *   35  a packet's body that does not expand to 640 bytes: 0
+ *   36  bands or dots shorter than PRINTBOX_STRIP_BYTES, or a record of over nine bands or 648 body
+ *       bytes: 0
  */
 
 #ifndef PRINTBOX_H
@@ -197,6 +207,82 @@ void gdi_write_document_end(uint8_t *output, size_t output_length, uint64_t answ
  * Refusals: 27.
  */
 void gdi_linefill(size_t width, uint64_t answer[3]);
+
+/* ---- the strip printer of a pocket gauge (GB Printer) ---- */
+
+/* The dots of a row, the bytes of a printed row, the rows of a band, and the bytes of a band. */
+#define PRINTBOX_STRIP_WIDTH 160
+#define PRINTBOX_STRIP_ROW_BYTES 40
+#define PRINTBOX_STRIP_BAND_ROWS 16
+#define PRINTBOX_STRIP_BAND_BYTES 640
+
+/* The greatest number of bands that wait, and the least length of bands and dots. */
+#define PRINTBOX_STRIP_BANDS 9
+#define PRINTBOX_STRIP_BYTES 5760
+
+/* The greatest number of bytes of a packet's body. */
+#define PRINTBOX_STRIP_BODY_BYTES 648
+
+/* What a packet did, at its last byte: strip_answer.event. */
+#define PRINTBOX_STRIP_NOTHING 0
+#define PRINTBOX_STRIP_INITIALIZE 1 /* no band waits any more */
+#define PRINTBOX_STRIP_BAND 2       /* Data: one more band waits */
+#define PRINTBOX_STRIP_PAGE_END 3   /* Data with no body */
+#define PRINTBOX_STRIP_INQUIRY 4
+#define PRINTBOX_STRIP_PRINT 5 /* the rows of the waiting bands were written */
+
+/*
+ * The record of a receiver. Any numbers may stand in it. Begin with strip_new, and let nobody else
+ * write it or the waiting bands: then, for every stream of bytes, receiver and waiting bands are
+ * those of a plain reading of the packets, which is proved.
+ */
+struct strip_record {
+    uint8_t phase;     /* the byte that is awaited: 1 a mark's second, 2 to 5 the header's, 6 one of
+                          the body, 7 and 8 the checksum's, 9 and 10 the clock bytes; 0, and any
+                          other number, a mark's first */
+    uint8_t command;   /* of the packet */
+    uint8_t indicator; /* of the packet: 1 for a run-coded body */
+    uint16_t size;     /* the length of its body */
+    uint16_t have;     /* the bytes of the body that have come */
+    uint16_t sum;      /* of header and body so far; carried past 65,535 it starts again at 0 */
+    uint8_t low;       /* the low byte of the length, and then of the checksum */
+    uint8_t status;    /* that the host has set */
+    uint8_t bands;     /* how many bands wait */
+    uint8_t body[PRINTBOX_STRIP_BODY_BYTES];
+};
+
+/* What a byte is answered. What is not named for a kind or an event is 0. */
+struct strip_answer {
+    uint8_t kind;    /* PRINTBOX_DONE or PRINTBOX_REFUSED */
+    uint8_t reply;   /* the byte on the line */
+    uint8_t event;   /* done: what the packet did that this byte ends */
+    uint8_t bands;   /* BAND: how many wait now; PRINT: how many were printed */
+    uint8_t margins; /* PRINT: before the page in the high four bits, after it in the low ones */
+    uint8_t density; /* PRINT: of the ink */
+    uint8_t number;  /* refused: the number */
+    size_t place;    /* refused: the place, which is always 0 */
+};
+
+/* A record before the first byte: it searches for a mark, no band waits, and the status is 0. */
+struct strip_record strip_new(void);
+
+/*
+ * Takes one byte. The waiting bands stand in `bands` from its first byte on, as they came: 40 tiles
+ * of 16 bytes each. Print writes their rows into `dots` from its first byte on: 16 rows of 40 bytes
+ * for each band, four dots in a byte, the leftmost in the highest two bits, 0 for white to 3 for
+ * black.
+ * Done: the byte that is answered on the line, and what the packet did that it ends.
+ * A byte that is refused with 36 is not taken: record, bands and dots stay. Any other refused byte
+ * is taken and answered 0, bands and dots stay, and the search for a mark goes on at the next byte.
+ * From a new record, with both buffers long enough, 36 is never given.
+ * Refusals: 31 to 36.
+ */
+struct strip_answer strip_receive(struct strip_record *record, uint8_t byte,
+                                  uint8_t *bands, size_t bands_length,
+                                  uint8_t *dots, size_t dots_length);
+
+/* Sets the status that a packet's second clock byte is answered. All else stays. */
+void strip_set_status(struct strip_record *record, uint8_t status);
 
 #ifdef __cplusplus
 }

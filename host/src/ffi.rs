@@ -3,7 +3,7 @@
 
 #![allow(unsafe_code)]
 
-use crate::Refusal;
+use crate::{strip, Refusal};
 
 // A length crosses the border as a `usize` and an answer as a `u64`: they are the same numbers.
 const _: () = assert!(usize::BITS == 64, "libprintbox.a is for 64-bit machines");
@@ -55,6 +55,47 @@ fn answer(call: impl FnOnce(*mut [u64; 3])) -> Answer {
         2 => Answer::PageEnd(a as usize, b as usize),
         _ => unreachable!("no answer is of kind {kind}"),
     }
+}
+
+/// A receiver's record. Any numbers may stand in it; what they then mean is said in the header.
+#[repr(C)]
+#[derive(Clone, Copy, Debug, PartialEq, Eq)]
+pub struct StripRecord {
+    /// Where the receiver stands in a packet, 0 to 10; 0, and every other number, is the search for
+    /// a mark.
+    pub phase: u8,
+    /// The packet's command.
+    pub command: u8,
+    /// Its compression indicator.
+    pub indicator: u8,
+    /// The length of its body.
+    pub size: u16,
+    /// How many bytes of the body have come.
+    pub have: u16,
+    /// The sum of header and body so far.
+    pub sum: u16,
+    /// The low byte of the length, and then of the checksum.
+    pub low: u8,
+    /// The host's status.
+    pub status: u8,
+    /// How many bands wait.
+    pub bands: u8,
+    /// The body.
+    pub body: [u8; 648],
+}
+
+/// What a byte is answered.
+#[repr(C)]
+#[derive(Clone, Copy, Debug)]
+pub struct StripAnswer {
+    pub kind: u8,
+    pub reply: u8,
+    pub event: u8,
+    pub bands: u8,
+    pub margins: u8,
+    pub density: u8,
+    pub number: u8,
+    pub place: usize,
 }
 
 mod c {
@@ -112,6 +153,16 @@ mod c {
         pub fn gdi_write_page_end(output: *mut u8, output_len: usize, answer: *mut [u64; 3]);
         pub fn gdi_write_document_end(output: *mut u8, output_len: usize, answer: *mut [u64; 3]);
         pub fn gdi_linefill(width: usize, answer: *mut [u64; 3]);
+        pub fn strip_new() -> super::StripRecord;
+        pub fn strip_receive(
+            record: *mut super::StripRecord,
+            byte: u8,
+            bands: *mut u8,
+            bands_len: usize,
+            dots: *mut u8,
+            dots_len: usize,
+        ) -> super::StripAnswer;
+        pub fn strip_set_status(record: *mut super::StripRecord, status: u8);
     }
 }
 
@@ -231,4 +282,51 @@ pub fn gdi_write_document_end(output: &mut [u8]) -> Answer {
 pub fn gdi_linefill(width: usize) -> Answer {
     // SAFETY: (d). Width may be any number.
     answer(|answer| unsafe { c::gdi_linefill(width, answer) })
+}
+
+pub fn strip_new() -> StripRecord {
+    // SAFETY: it takes nothing, and gives a whole record.
+    unsafe { c::strip_new() }
+}
+
+pub fn strip_receive(
+    record: &mut StripRecord,
+    byte: u8,
+    bands: &mut [u8],
+    dots: &mut [u8],
+) -> Result<strip::Answer, Refusal> {
+    // SAFETY: (a) and (c) for bands and dots; the record is aligned, overlaps neither, and every
+    // number may stand in it.
+    let told = unsafe {
+        c::strip_receive(
+            record,
+            byte,
+            bands.as_mut_ptr(),
+            bands.len(),
+            dots.as_mut_ptr(),
+            dots.len(),
+        )
+    };
+    match (told.kind, told.event, told.reply) {
+        (0, 0, reply) => Ok(strip::Answer::Reply(reply)),
+        (0, 1, 0) => Ok(strip::Answer::Acted(strip::Event::Initialize)),
+        (0, 2, 0) => Ok(strip::Answer::Acted(strip::Event::Band(told.bands))),
+        (0, 3, 0) => Ok(strip::Answer::Acted(strip::Event::PageEnd)),
+        (0, 4, 0) => Ok(strip::Answer::Acted(strip::Event::Inquiry)),
+        (0, 5, 0) => Ok(strip::Answer::Acted(strip::Event::Print(strip::Print {
+            bands: told.bands,
+            margins: told.margins,
+            density: told.density,
+        }))),
+        (1, 0, 0) => Err(Refusal {
+            number: told.number,
+            place: told.place as u64,
+        }),
+        _ => unreachable!("no answer of a byte is {told:?}"),
+    }
+}
+
+pub fn strip_set_status(record: &mut StripRecord, status: u8) {
+    // SAFETY: the record is aligned, and nothing else refers to it.
+    unsafe { c::strip_set_status(record, status) }
 }

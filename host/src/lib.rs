@@ -1,5 +1,5 @@
-//! The print box's library: tolerance films drawn from sheets of masks, and Sagem GDI jobs checked,
-//! read and written.
+//! The print box's library: tolerance films drawn from sheets of masks, Sagem GDI jobs checked, read
+//! and written, and the receiver of a strip printer.
 //!
 //! The functions are those of the proved library, `libprintbox.a`. This crate lends slices to its C
 //! functions and gives their answers a type; it decides nothing itself. What each function answers
@@ -8,6 +8,7 @@
 //!
 //! - [`film`] checks a sheet with its load and draws its bands.
 //! - [`gdi`] checks a job, reads its lines, and writes heads, rows and ends.
+//! - [`strip`] receives what a pocket gauge sends to its strip printer, byte by byte.
 //!
 //! A call that is refused gives a [`Refusal`] and leaves every byte of the lent buffer as it was. A
 //! call that writes leaves the bytes beyond what it wrote.
@@ -18,6 +19,7 @@
 mod ffi;
 pub mod film;
 pub mod gdi;
+pub mod strip;
 
 use std::fmt;
 
@@ -32,7 +34,7 @@ pub const FILE_BYTES: usize = 16_777_216;
 /// ```
 #[derive(Clone, Copy, Debug, PartialEq, Eq, Hash)]
 pub struct Refusal {
-    /// The number of the refusal: 1 to 12 for films, 1 and 21 to 28 for jobs.
+    /// The number of the refusal: 1 to 12 for films, 1 and 21 to 28 for jobs, 31 to 36 for the strip printer.
     pub number: u8,
     /// Where the fault is: a word of the sheet or a byte of the job, counted from 0; 0 where the
     /// number has no place.

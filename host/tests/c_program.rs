@@ -1,4 +1,4 @@
-//! The header and the archive in the hands of a C compiler: a C program that calls every entry, the
+//! The header and the archive in the hands of a C compiler: two C programs that call every entry, the
 //! header as C++, and the names that the archive brings into a program.
 
 use std::path::{Path, PathBuf};
@@ -38,6 +38,58 @@ gdi_write_row: refused 27 0
 gdi_linefill: done 39498 0
 ";
 
+/// What tests/c/receive_strip.c prints. A row of the band is FF 00 for each tile, through E4: index
+/// 0 is black and index 3 white. The bytes DD beyond the 16 rows stay.
+const RECEIVED: &str = "\
+sizes: 160 40 16 640 9 5760 648
+initialize
+reply 81
+reply 02
+band 1
+reply 81
+reply 02
+page end
+reply 81
+reply 02
+print 1 13 40
+reply 81
+reply 02
+FF00 FF00 FF00 FF00 FF00 FF00 FF00 FF00 FF00 FF00 FF00 FF00 FF00 FF00 FF00 FF00 DDDD \n\
+bands 0FBB
+refused 31 at 0
+refused 32 at 0
+refused 33 at 0
+refused 35 at 0
+band 2
+reply 81
+reply 02
+band 3
+reply 81
+reply 02
+band 4
+reply 81
+reply 02
+band 5
+reply 81
+reply 02
+band 6
+reply 81
+reply 02
+band 7
+reply 81
+reply 02
+band 8
+reply 81
+reply 02
+band 9
+reply 81
+reply 02
+refused 34 at 0
+refused 36 at 0
+the record stays
+inquiry
+";
+
 const ARCHIVE: &str = "../target/staticlib/libprintbox.a";
 
 fn in_host(path: &str) -> PathBuf {
@@ -58,9 +110,9 @@ fn run(command: &mut Command) -> Output {
     output
 }
 
-#[test]
-fn c_program_prints_what_it_should() {
-    let program = Path::new(env!("CARGO_TARGET_TMPDIR")).join("draw_band");
+/// Compiles a program of tests/c, runs it, and holds what it prints against what it should.
+fn prints(name: &str, expected: &str) {
+    let program = Path::new(env!("CARGO_TARGET_TMPDIR")).join(name);
     run(Command::new("gcc")
         .args([
             "-std=c99",
@@ -72,12 +124,22 @@ fn c_program_prints_what_it_should() {
             "-I",
         ])
         .arg(in_host("include"))
-        .arg(in_host("tests/c/draw_band.c"))
+        .arg(in_host(&format!("tests/c/{name}.c")))
         .arg(in_host(ARCHIVE))
         .arg("-o")
         .arg(&program));
     let output = run(&mut Command::new(&program));
-    assert_eq!(String::from_utf8_lossy(&output.stdout), PRINTED);
+    assert_eq!(String::from_utf8_lossy(&output.stdout), expected);
+}
+
+#[test]
+fn films_and_jobs_in_c() {
+    prints("draw_band", PRINTED);
+}
+
+#[test]
+fn a_strip_in_c() {
+    prints("receive_strip", RECEIVED);
 }
 
 #[test]
@@ -101,7 +163,7 @@ fn header_is_cpp_too() {
 }
 
 /// The archive has no other names that could clash with a program's, and asks nothing of it but
-/// `memset`: it allocates no memory, and it reads and writes no file.
+/// `memcpy` and `memset`: it allocates no memory, and it reads and writes no file.
 #[test]
 fn archive_has_just_the_entries() {
     let output = run(Command::new("nm")
@@ -125,7 +187,11 @@ fn archive_has_just_the_entries() {
         "gdi_write_page_end T",
         "gdi_write_page_head T",
         "gdi_write_row T",
+        "memcpy U",
         "memset U",
+        "strip_new T",
+        "strip_receive T",
+        "strip_set_status T",
     ];
     assert_eq!(names, expected);
 }

@@ -1,44 +1,16 @@
 //! The library against `reference` on random inputs, many of them damaged: answers and buffers,
-//! byte for byte.
-//!
-//! PRINTBOX_SEED and PRINTBOX_ROUNDS in the environment give another seed and another number of
-//! rounds. Each round has a seed of its own, the first one's and its index added, so a round that
-//! shows a difference can be run alone.
+//! byte for byte. tests/common/rounds.rs says how to give another seed and length.
 
 mod common;
 
 use common::header::refusals;
+use common::rounds::{rounds, wanted};
 use common::table::Table;
 use common::{Answer, Call, Entry, Outcome};
 use generate::{Film, Rng};
 use printbox::gdi::{row_bytes, row_room, PageHead, WIDTH_MAX};
 
-const SEED: u64 = 20_260_101;
 const ROUNDS: u64 = 80_000;
-
-fn from_environment(name: &str, otherwise: u64) -> u64 {
-    match std::env::var(name) {
-        Ok(text) => text
-            .parse()
-            .unwrap_or_else(|_| panic!("{name} is {text:?}, and no number")),
-        Err(_) => otherwise,
-    }
-}
-
-/// Calls `round` with each seed; what it answers as a difference is told with the seed.
-fn rounds(default: u64, mut round: impl FnMut(&mut Rng) -> Result<(), String>) {
-    let first = from_environment("PRINTBOX_SEED", SEED);
-    let rounds = from_environment("PRINTBOX_ROUNDS", default);
-    for index in 0..rounds {
-        let seed = first.wrapping_add(index);
-        if let Err(difference) = round(&mut Rng::new(seed)) {
-            panic!(
-                "round {index} of seed {first}, again with PRINTBOX_SEED={seed} PRINTBOX_ROUNDS=1\n\
-                 {difference}"
-            );
-        }
-    }
-}
 
 /// Makes a call and counts its answer.
 fn made(
@@ -263,7 +235,8 @@ fn reads_back(rng: &mut Rng, width: usize, row: &[u8], line: &[u8]) -> Result<()
 fn library_against_reference() {
     let mut table = Table::default();
     let (mut drawn, mut read, mut read_back) = (0, 0, 0);
-    rounds(ROUNDS, |rng| {
+    rounds(ROUNDS, |seed| {
+        let rng = &mut Rng::new(seed);
         films(rng, &mut table, &mut drawn)?;
         jobs(rng, &mut table, &mut read)?;
         writers(rng, &mut table, &mut read_back)
@@ -271,7 +244,7 @@ fn library_against_reference() {
     println!("{table}");
     println!("{drawn} bands drawn of films and {read} lines read of jobs that pass the check");
     println!("{read_back} rows read back");
-    if from_environment("PRINTBOX_ROUNDS", ROUNDS) < ROUNDS {
+    if wanted(ROUNDS) < ROUNDS {
         return;
     }
     assert!(table.total() >= 1_000_000, "{} inputs", table.total());
@@ -334,7 +307,8 @@ fn append(job: &mut Vec<u8>, entry: Entry, row: &[u8], room: usize) -> Result<()
 #[test]
 fn written_jobs_read_back() {
     let (mut jobs, mut lines) = (0, 0);
-    rounds(2_000, |rng| {
+    rounds(2_000, |seed| {
+        let rng = &mut Rng::new(seed);
         let mut pages = Vec::new();
         let mut job = Vec::new();
         append(&mut job, Entry::GdiWriteHead, &[], 86)?;

@@ -1,5 +1,6 @@
-// The library for programs in C and Rust: host/include/printbox.h declares it. Each entry point gives its answer as three numbers: kind, a and b. Kind 0:
-// done, with values that the entry point names; kind 1: refused, a is the number and b the place; kind 2: page end, a and b are the next place.
+// The library for programs in C and Rust: host/include/printbox.h declares it. Each entry point of films and jobs gives its answer as three numbers: kind,
+// a and b. Kind 0: done, with values that the entry point names; kind 1: refused, a is the number and b the place; kind 2: page end, a and b are the next
+// place. Those of the strip printer go by a record and an answer of numbers.
 ghost use mathlib.Core.Path.{_≡_};
 ghost use lib.ListN.{length};
 ghost use Rattle.sheet.specs.Check.{checkAnswer};
@@ -11,6 +12,8 @@ ghost use Rattle.gdi.specs.Writers.{headWriting, pageEndWriting, documentEndWri
 ghost use Rattle.gdi_write.specs.Paper.{fillAnswer};
 ghost use Rattle.gdi_write.specs.Answers as write;
 ghost use Rattle.numbers.specs.Numbers.{ofCheck, ofDraw, ofJob, ofLine, ofWriting, ofFill};
+ghost use Rattle.strip.specs.Step.{newRecord};
+ghost use Rattle.strip_numbers.specs.Numbers.{recordOf, recordWithStatus, NumberSteps};
 use gdi::WIDEST;
 use gdi_write::Filled;
 use gdi_write::Paper;
@@ -20,6 +23,8 @@ use numbers::of_fill;
 use numbers::of_job;
 use numbers::of_line;
 use numbers::of_writing;
+use strip_numbers::StripAnswer;
+use strip_numbers::StripRecord;
 
 // Checks a sheet with its load. Done: pages, 0.
 #[no_mangle]
@@ -158,4 +163,35 @@ pub extern "C" fn gdi_linefill(width: usize, answer: &mut [u64; 3])
     ensures { λ _. ⌜ now (answer .exit) ≡ ofFill (fillAnswer width) ⌝ }
 {
     *answer = of_fill(linefill(width));
+}
+
+// A receiver's record before the first byte.
+#[no_mangle]
+pub extern "C" fn strip_new() -> StripRecord
+    ensures { λ r. ⌜ r ≡ recordOf newRecord ⌝ }
+{
+    strip_numbers::new_record()
+}
+
+// One byte to a receiver, as strip_numbers::step_record; the record that is lent is taken apart, and stored back.
+#[no_mangle]
+pub extern "C" fn strip_receive(
+    record: &mut StripRecord,
+    byte: u8,
+    bands: &mut [u8],
+    dots: &mut [u8],
+) -> StripAnswer
+    ensures { λ a. ⌜ NumberSteps (now («record» .entry)) byte (now (bands .entry)) (now (dots .entry)) (now («record» .exit)) a (now (bands .exit)) (now (dots .exit)) ⌝ }
+{
+    let s = strip_numbers::step_record(*record, byte, bands, dots);
+    *record = s.rec;
+    s.answer
+}
+
+// The status that the host sets; all else stays.
+#[no_mangle]
+pub extern "C" fn strip_set_status(record: &mut StripRecord, status: u8)
+    ensures { λ _. ⌜ now («record» .exit) ≡ recordWithStatus status (now («record» .entry)) ⌝ }
+{
+    record.status = status;
 }

@@ -2,6 +2,7 @@
 use Rattle.refusals.specs.Refusals.{Refusals}
 use Rattle.refusals.proofs.Films as films
 use Rattle.refusals.proofs.Jobs as jobs
+use Rattle.refusals.proofs.Strip as strip
 
 pub refusals : Refusals
 refusals =
@@ -16,4 +17,6 @@ refusals =
       gdi-write-page-end = jobs.gdi-write-page-end;
       gdi-write-document-end = jobs.gdi-write-document-end;
       gdi-linefill = jobs.gdi-linefill;
+      strip-receive = strip.strip-receive;
+      strip-place = strip.strip-place;
     }

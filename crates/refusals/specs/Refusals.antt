@@ -13,6 +13,9 @@ use Rattle.gdi.specs.Lines as lines
 use Rattle.gdi.specs.Writers.{headWriting, pageEndWriting, documentEndWriting, PageHead, pageHeadWriting, rowWriting, answerOf}
 use Rattle.gdi_write.specs.Paper.{fillAnswer}
 use Rattle.numbers.specs.Numbers.{ofCheck, ofDraw, ofJob, ofLine, ofWriting, ofFill}
+use Rattle.strip_numbers.specs.declared.StripRecord.{StripRecord}
+use Rattle.strip_numbers.specs.declared.StripAnswer.{StripAnswer}
+use Rattle.strip_numbers.specs.Numbers.{numberStep}
 
 -- whether n is one of these numbers
 unfoldable pub among : List ℕ → ℕ → Bool
@@ -44,6 +47,13 @@ pageHeadRefusals = 22 ∷ 27 ∷ []
 abbrev pub otherRefusals : List ℕ
 otherRefusals = 27 ∷ []
 
+abbrev pub stripRefusals : List ℕ
+stripRefusals = 31 ∷ 32 ∷ 33 ∷ 34 ∷ 35 ∷ 36 ∷ []
+
+-- kind, number and place of an answer of the strip printer's receiver
+abbrev pub ofStrip : StripAnswer → List ℕ
+ofStrip a = a .kind ∷ a .number ∷ a .place ∷ []
+
 -- ---- the statement
 
 pub record Refusals : Type 0 where
@@ -57,6 +67,9 @@ pub record Refusals : Type 0 where
   pub gdi-write-page-end : (room : ℕ) → gives otherRefusals (ofWriting (answerOf (pageEndWriting room))) ≡ true
   pub gdi-write-document-end : (room : ℕ) → gives otherRefusals (ofWriting (answerOf (documentEndWriting room))) ≡ true
   pub gdi-linefill : (width : ℕ) → gives otherRefusals (ofFill (fillAnswer width)) ≡ true
+  pub strip-receive : (r : StripRecord) (b : ℕ) (bands dots : List ℕ) → gives stripRefusals (ofStrip (numberStep r b bands dots .answer)) ≡ true
+  -- and the place of these is always 0
+  pub strip-place : (r : StripRecord) (b : ℕ) (bands dots : List ℕ) → numberStep r b bands dots .answer .place ≡ 0
 
 -- ---- worked cases
 

@@ -9,6 +9,7 @@
 pub mod common;
 pub mod film;
 pub mod gdi;
+pub mod strip;
 
 use common::fenced::{FencedEnd, FencedStart};
 use common::Call;
@@ -96,4 +97,5 @@ targets! {
     fuzz_film_draw: film::draw;
     fuzz_gdi_check: gdi::check;
     fuzz_gdi_read_line: gdi::read_line;
+    fuzz_strip_receive: strip::receive;
 }

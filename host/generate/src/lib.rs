@@ -1,6 +1,6 @@
-//! Random inputs for the film and GDI functions: mostly well-formed, often damaged, the same on
-//! every machine for the same seed. It depends on nothing, so that an error of the code that is
-//! tested, or of the reference, cannot keep an input from being made.
+//! Random inputs for the film, GDI and strip printer functions: mostly well-formed, often damaged,
+//! the same on every machine for the same seed. It depends on nothing, so that an error of the code
+//! that is tested, or of the reference, cannot keep an input from being made.
 
 #![forbid(unsafe_code)]
 
@@ -15,6 +15,7 @@ mod lines;
 mod load;
 mod rng;
 mod rows;
+mod strip;
 
 #[cfg(test)]
 mod tests;
@@ -25,3 +26,4 @@ pub use job::job;
 pub use lines::{line, Line};
 pub use rng::Rng;
 pub use rows::{page_head, row, PageHead, Row};
+pub use strip::{strip, Strip, StripOp};

@@ -1,6 +1,7 @@
 //! The inputs depend on the seed alone, and no seed stops a generator.
 
-use crate::{call, film, job, line, page_head, row, Rng};
+use crate::strip::coded;
+use crate::{call, film, job, line, page_head, row, strip, Rng, StripOp};
 
 /// FNV-1a over some inputs of every kind.
 fn print_of(seed: u64, count: usize) -> u64 {
@@ -21,6 +22,13 @@ fn print_of(seed: u64, count: usize) -> u64 {
         add(&line(&mut rng, &job).row);
         add(&row(&mut rng).output);
         add(&page_head(&mut rng).output);
+        for op in strip(&mut rng).ops {
+            match op {
+                StripOp::Bytes(bytes) => add(&bytes),
+                StripOp::Status(status) => add(&[status]),
+                op => add(format!("{op:?}").as_bytes()),
+            }
+        }
     }
     sum
 }
@@ -43,4 +51,28 @@ fn many_seeds() {
     for seed in 0..300 {
         print_of(seed, 20);
     }
+}
+
+/// The coded bodies of a strip expand to 640 bytes, and every run that can be is in some.
+#[test]
+fn coded_runs() {
+    let (mut heads, mut longest) = ([0; 256], 0);
+    for seed in 0..3_000 {
+        let body = coded(&mut Rng::new(seed), 640);
+        longest = longest.max(body.len());
+        let (mut place, mut total) = (0, 0);
+        while place < body.len() {
+            let head = usize::from(body[place]);
+            heads[head] += 1;
+            let (bytes, stands_for) = match head {
+                0..128 => (head + 2, head + 1),
+                _ => (2, head - 126),
+            };
+            place += bytes;
+            total += stands_for;
+        }
+        assert_eq!((place, total), (body.len(), 640));
+    }
+    assert_eq!(longest, 648);
+    assert!(heads.iter().all(|count| *count > 0), "{heads:?}");
 }

@@ -1,4 +1,4 @@
-//! An independent reading of the requirements: film sheets and GDI jobs.
+//! An independent reading of the requirements: film sheets, GDI jobs and the strip printer's line.
 //!
 //! It follows their sentences as plainly as it can and makes no attempt to be fast.
 //! Imaging goes dot by dot: each dot of a band is asked of each command in order.
@@ -12,6 +12,7 @@ mod imaging;
 mod jobs;
 mod lines;
 mod sheet;
+pub mod strip;
 mod words;
 mod writers;
 

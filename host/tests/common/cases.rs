@@ -14,8 +14,8 @@
 //! Each may have `refused NUMBER PLACE` for an answer instead.
 
 use super::calls::{Answer, Call, Entry, Outcome};
+use super::fields::{bytes, number};
 use printbox::gdi::PageHead;
-use std::str::FromStr;
 
 pub const FILM: &str = include_str!("../data/film.txt");
 pub const GDI: &str = include_str!("../data/gdi.txt");
@@ -27,26 +27,6 @@ pub struct Case {
     pub inputs: [Vec<u8>; 2],
     pub buffer: Vec<u8>,
     pub expected: Outcome,
-}
-
-fn bytes(field: &str) -> Result<Vec<u8>, String> {
-    if field == "-" {
-        return Ok(Vec::new());
-    }
-    let digits = field.bytes().all(|c| c.is_ascii_hexdigit());
-    if field.is_empty() || !digits || !field.len().is_multiple_of(2) {
-        return Err(format!("{field:?} is not bytes in hexadecimal"));
-    }
-    let pairs = (0..field.len()).step_by(2).map(|i| &field[i..i + 2]);
-    Ok(pairs
-        .map(|pair| u8::from_str_radix(pair, 16).expect("two hexadecimal digits"))
-        .collect())
-}
-
-fn number<T: FromStr>(field: &str) -> Result<T, String> {
-    field
-        .parse()
-        .map_err(|_| format!("{field:?} is not a number of its range"))
 }
 
 /// Entry, inputs and buffer of a call.

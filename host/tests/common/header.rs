@@ -5,7 +5,7 @@ pub const HEADER: &str = include_str!("../../include/printbox.h");
 /// The refusals that the header names for an entry, as in `Refusals: 1 to 9, 11, 12.`
 pub fn refusals(entry: &str) -> Vec<usize> {
     let (comment, _) = HEADER
-        .split_once(&format!("\nvoid {entry}("))
+        .split_once(&format!(" {entry}("))
         .unwrap_or_else(|| panic!("the header does not declare {entry}"));
     let (_, listed) = comment
         .rsplit_once("Refusals: ")

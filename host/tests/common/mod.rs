@@ -5,9 +5,13 @@
 pub mod calls;
 pub mod cases;
 pub mod fenced;
+pub mod fields;
 pub mod guarded;
 pub mod header;
 pub mod raster;
+pub mod rounds;
+pub mod strip;
+pub mod strip_cases;
 pub mod table;
 
 pub use calls::{agreed, answer, Answer, Call, Entry, Outcome};

@@ -5,7 +5,7 @@ use crate::failure::{Failure, Outcome, Status};
 use crate::output::to_standard_output;
 
 /// What each refusal means, in a sentence.
-pub const MEANINGS: [(u8, &str); 20] = [
+pub const MEANINGS: [(u8, &str); 26] = [
     (1, "The sheet or the load has an odd number of bytes, or the sheet, the load or the job has \
          more than 16,777,216; the place is 0."),
     (2, "The file is no sheet: it has fewer than 12 words or does not start with the password AAAA \
@@ -44,6 +44,18 @@ pub const MEANINGS: [(u8, &str); 20] = [
           spare bit set, or an output is too short; the place is 0."),
     (28, "A row to be written has a run over 16,383 dots, which no row of an admitted width has; \
           the place is 0."),
+    (31, "A packet's checksum is not the sum of its header and body; the place is 0."),
+    (32, "A packet's command is none of 01 (Initialize), 02 (Print), 04 (Data) and 0F (Inquiry) \
+          hex; the place is 0."),
+    (33, "A packet's indicator or length does not fit its command: Data has indicator 0 and length \
+          0 or 640, or indicator 1 and length 1 to 648, Print 0 and 4, Initialize and Inquiry 0 \
+          and 0, and an unknown command any indicator and at most 648; the place is 0."),
+    (34, "A Data packet brings a tenth band while nine wait, for which only an Initialize packet \
+          makes room; the place is 0."),
+    (35, "The coded body of a Data packet does not expand to exactly 640 bytes, or its last run is \
+          cut; the place is 0."),
+    (36, "A buffer that was lent to the receiver has under 5,760 bytes, or its record has over nine \
+          bands or 648 body bytes, so that the byte is not taken; the place is 0."),
 ];
 
 pub fn run(arguments: &Arguments) -> Outcome<Status> {
@@ -54,7 +66,7 @@ pub fn run(arguments: &Arguments) -> Outcome<Status> {
     let Some((_, sentence)) = meaning else {
         let given = shown(given);
         return Err(Failure::trouble(format!(
-            "no refusal has the number {given}: they are 1 to 12 and 21 to 28"
+            "no refusal has the number {given}: they are 1 to 12, 21 to 28 and 31 to 36"
         )));
     };
     to_standard_output(|output| writeln!(output, "{sentence}"))?;

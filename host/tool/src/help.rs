@@ -1,7 +1,7 @@
 //! The texts of `--help`.
 
 pub const ALL: &str = "\
-printbox: tolerance films and Sagem GDI jobs
+printbox: tolerance films, Sagem GDI jobs and strips of a pocket gauge
 
   printbox check SHEET.. [--load LOAD]
   printbox draw SHEET [--load LOAD] [--page N] [--band B] [-o FILE]
@@ -10,18 +10,21 @@ printbox: tolerance films and Sagem GDI jobs
   printbox job check JOB..
   printbox job lines JOB [--page N] [-o FILE]
   printbox job make PBM.. [--paper PAPER] [--tray T] [--copies N] [--toner-save] -o FILE
+  printbox strip FILE.. [-o DIR]
+  printbox strip make PICTURE [--plain] [--palette HH] [--margins A,B] [--density N] -o FILE
   printbox explain NUMBER
 
 `printbox COMMAND --help` tells more of each. Pages, bands and lines are counted from 0. A file
 named `-` is standard input, or with -o standard output; `--` ends the options.
 
-The exit status is 0 when all is done, 1 when a file is refused, and 2 for bad arguments, a file
-that can't be read or output that can't be written.
+The exit status is 0 when all is done, 1 when a file or a packet is refused, and 2 for bad
+arguments, a file that can't be read or output that can't be written.
 
-What is refused, with which number and place, and every dot drawn, read or written is the answer of
-the proved library. What the tool works out for itself is not proved: the words after a refusal's
-colon, among them the page, band and command that a place lies in; the bands and the width of a
-picture, read from the sheet's herald; the width and height in a page head; and the PBM files.
+What is refused, with which number and place, every dot drawn, read or printed, and every byte of a
+job is the answer of the proved library. What the tool works out for itself is not proved: the words
+after a refusal's number and place, among them the page, band and command that a place lies in; the
+bands and the width of a picture, read from the sheet's herald; the width and height in a page head;
+where a packet begins; the packets that `strip make` writes; and the PBM and PGM files.
 ";
 
 pub const CHECK: &str = "\
@@ -124,9 +127,60 @@ A job over 16,777,216 bytes, or a picture that no page can have (over 16,383 by 
 empty), is refused, and nothing is written.
 ";
 
+pub const STRIP: &str = "\
+printbox strip FILE.. [-o DIR]
+
+Receives what a pocket gauge sent to its strip printer, in files of the bytes as they came, and
+prints a line for each packet:
+
+  at 0: initialize
+  at 10: data, band 1 of 9
+  at 660: data, end of page
+  at 670: print, 1 band, margins 1 and 3, density 64
+  at 684: inquiry
+  at 694: refused 31, checksum 1A2B, and the sum is 1A2C
+
+The first number is the place of the packet's mark, 88 33 hex, in the file, counted from 0. Margins
+are those before and after the page. A file without any packet prints `no packet`. Of more files
+each line has the name of its file, and a total follows.
+
+  -o DIR   writes each printed page as a PGM picture (P5) of 160 dots by 16 for each band, in the
+           greys 255, 170, 85 and 0: DIR/page-0.pgm and so on, or DIR/page-00.pgm when a file has
+           ended after more than ten; of more files DIR/NAME-page-0.pgm, where NAME is the file's
+           without its ending. DIR is made where it is not there. A page of 0 bands has no picture.
+
+What a packet does, its numbers, the number of a refusal and every dot are the proved library's; the
+place of a packet and the words after a refusal's number are worked out by the tool, and not proved.
+`printbox explain 31` tells more.
+
+The exit status is 0 when no packet is refused, 1 when one is, 2 when a file can't be read or a
+picture can't be written. A file that ends inside a packet says so in its last line. That is no
+refusal, since a printer would wait for the rest, so the status stays.
+";
+
+pub const STRIP_MAKE: &str = "\
+printbox strip make PICTURE [--plain] [--palette HH] [--margins A,B] [--density N] -o FILE
+
+Makes the stream that prints a PGM (P5 or P2) or PBM (P4 or P1) picture of 160 dots width, as a
+pocket gauge would send it, so that `strip` or a printer can be tried without one. Each dot gets the
+nearest of the four shades, which are white and a third, two thirds and all of black. The last band
+is filled up with white. Of a picture over 144 rows the pages are printed with no margin between. A
+file may hold several pictures, and each has its margins.
+
+  --plain         sends every band plain; without it a band is sent coded where that is shorter
+  --palette HH    the palette in hexadecimal, the shade of index 0 in its highest two bits; 1B by
+                  default, where each index is its own shade. Where a palette lacks a shade, the
+                  nearest that it has is printed.
+  --margins A,B   the margins before and after a picture, 0 to 15; 1,3 by default
+  --density N     the density, 0 to 255; 64 by default
+  -o FILE         the stream's file, or - for standard output
+
+A picture of another width or of no rows is not taken, and then nothing is written.
+";
+
 pub const EXPLAIN: &str = "\
 printbox explain NUMBER
 
 Tells in a sentence what the refusal of this number means: 1 to 12 of sheets, 1 and 21 to 28 of
-jobs.
+jobs, 31 to 36 of the strip printer.
 ";

@@ -5,8 +5,9 @@ use crate::failure::{Failure, Outcome, Status};
 use crate::input::{name, open};
 use crate::job::{END_BYTES, HEAD_BYTES, PAGE_HEAD_BYTES};
 use crate::job_faults;
+use crate::netpbm::Size;
 use crate::output::{hold_target, to_target};
-use crate::pbm::{row_bytes, Bad, Reader, Size};
+use crate::pbm::{row_bytes, Reader};
 use printbox::gdi::{self, PageHead};
 use printbox::{Refusal, FILE_BYTES};
 use std::ffi::OsStr;
@@ -136,19 +137,12 @@ impl Pictures {
 
     fn next(&mut self) -> Outcome<Option<Size>> {
         let next = self.reader.next_picture();
-        next.map_err(|bad| self.unread(bad))
+        next.map_err(|bad| bad.of_file(&self.name))
     }
 
     fn row(&mut self, width: usize, row: &mut [u8]) -> Outcome<()> {
         let read = self.reader.row(width, row);
-        read.map_err(|bad| self.unread(bad))
-    }
-
-    fn unread(&self, bad: Bad) -> Failure {
-        match bad {
-            Bad::Form(what) => Failure::trouble(format!("{}: {what}", self.name)),
-            Bad::Input(error) => Failure::of_file(&self.name, &error),
-        }
+        read.map_err(|bad| bad.of_file(&self.name))
     }
 }
 

@@ -1,9 +1,10 @@
 //! The print box's command line tool, over the proved library.
 //!
-//! Refusals, dots and written bytes are the library's. Not proved is what the tool does by itself:
-//! it reads a herald's and a page head's numbers for the size of a picture (`sheet`, `job`), says in
-//! words what is wrong and in which page, band, command or line (`sheet_faults`, `job_faults`), and
-//! reads and writes PBM pictures (`pbm`).
+//! Refusals, dots and the bytes of jobs are the library's. Not proved is what the tool does by itself:
+//! it reads a herald's and a page head's numbers for the size of a picture (`sheet`, `job`), sees where
+//! a packet begins in its stream (`strip`), says in words what is wrong and in which page, band,
+//! command or line (`sheet_faults`, `job_faults`, `strip_faults`), reads and writes PBM and PGM
+//! pictures (`netpbm`, `pbm`, `pgm`), and makes streams of packets (`strip_make`, `strip_coding`).
 
 #![forbid(unsafe_code)]
 
@@ -20,10 +21,17 @@ mod job_faults;
 mod job_lines;
 mod job_make;
 mod list;
+mod netpbm;
 mod output;
 mod pbm;
+mod pgm;
 mod sheet;
 mod sheet_faults;
+mod strip;
+mod strip_coding;
+mod strip_faults;
+mod strip_make;
+mod strip_pages;
 
 use arguments::{shown, Arguments, Form, Opt};
 use failure::{Failure, Outcome, Status};
@@ -43,7 +51,8 @@ const LOAD: Opt = Opt::Value("--load", "a file");
 const PAGE: Opt = Opt::Value("--page", "a number");
 const FILE: Opt = Opt::Value("-o", "a file");
 
-const COMMANDS: [Command; 7] = [
+// A command of two words stands before one of its first word.
+const COMMANDS: [Command; 9] = [
     Command {
         form: Form {
             command: "check",
@@ -115,6 +124,32 @@ const COMMANDS: [Command; 7] = [
         },
         help: help::JOB_MAKE,
         run: job_make::run,
+    },
+    Command {
+        form: Form {
+            command: "strip make",
+            file: "PICTURE",
+            files: 1..=1,
+            options: &[
+                Opt::Flag("--plain"),
+                Opt::Value("--palette", "two hexadecimal digits"),
+                Opt::Value("--margins", "two numbers"),
+                Opt::Value("--density", "a number"),
+                FILE,
+            ],
+        },
+        help: help::STRIP_MAKE,
+        run: strip_make::run,
+    },
+    Command {
+        form: Form {
+            command: "strip",
+            file: "FILE",
+            files: 1..=usize::MAX,
+            options: &[Opt::Value("-o", "a folder")],
+        },
+        help: help::STRIP,
+        run: strip::run,
     },
     Command {
         form: Form {

@@ -1,7 +1,7 @@
 //! PBM pictures: P4 (raw) is written; P4 and P1 (plain) are read. A black dot is 1, and the high bit
 //! of a row's first byte is its first dot.
 
-use std::fmt;
+use crate::netpbm::{bad, ends_early, Bad, Input, Size};
 use std::io::{self, BufRead, Write};
 
 /// The bytes of a row: one for each 8 dots, rounded up. Both a row of a GDI line and a row of P4
@@ -38,68 +38,30 @@ impl Picture {
     }
 }
 
-/// Why a picture can't be read.
-#[derive(Debug)]
-pub enum Bad {
-    /// What is wrong with it.
-    Form(String),
-    Input(io::Error),
-}
-
-impl From<io::Error> for Bad {
-    fn from(error: io::Error) -> Bad {
-        Bad::Input(error)
-    }
-}
-
-fn bad<T>(what: impl Into<String>) -> Result<T, Bad> {
-    Err(Bad::Form(what.into()))
-}
-
-/// The size of a picture, told before its rows are read.
-#[derive(Clone, Copy, Debug, PartialEq, Eq)]
-pub struct Size {
-    pub width: usize,
-    pub height: usize,
-}
-
-impl fmt::Display for Size {
-    fn fmt(&self, f: &mut fmt::Formatter<'_>) -> fmt::Result {
-        write!(f, "{} x {}", self.width, self.height)
-    }
-}
-
 /// The pictures of a file, one after another: [`Reader::next_picture`], then as many rows as it has.
 pub struct Reader<R> {
-    input: R,
-    is_plain: bool,
+    pub input: Input<R>,
+    /// Whether the dots of the present picture are digits.
+    pub is_plain: bool,
 }
 
 impl<R: BufRead> Reader<R> {
     pub fn new(input: R) -> Reader<R> {
         Reader {
-            input,
+            input: Input(input),
             is_plain: false,
         }
     }
 
     /// The size of the next picture, or None at the end of the file.
     pub fn next_picture(&mut self) -> Result<Option<Size>, Bad> {
-        let first = loop {
-            match self.byte()? {
-                None => return Ok(None),
-                Some(byte) if byte.is_ascii_whitespace() => {}
-                Some(byte) => break byte,
-            }
+        self.is_plain = match self.input.start()? {
+            None => return Ok(None),
+            Some([b'P', b'4']) => false,
+            Some([b'P', b'1']) => true,
+            Some(_) => return bad("no PBM picture: it does not start with P4 or P1"),
         };
-        self.is_plain = match (first, self.byte()?) {
-            (b'P', Some(b'4')) => false,
-            (b'P', Some(b'1')) => true,
-            _ => return bad("no PBM picture: it does not start with P4 or P1"),
-        };
-        let width = self.size("width")?;
-        let height = self.size("height")?;
-        Ok(Some(Size { width, height }))
+        Ok(Some(self.input.size()?))
     }
 
     /// Reads the next row of a picture of this width. Spare bits come out as 0.
@@ -113,7 +75,7 @@ impl<R: BufRead> Reader<R> {
             }
             return Ok(());
         }
-        match self.input.read_exact(row) {
+        match self.input.0.read_exact(row) {
             Err(error) if error.kind() == io::ErrorKind::UnexpectedEof => ends_early(),
             other => {
                 other?;
@@ -127,7 +89,7 @@ impl<R: BufRead> Reader<R> {
 
     fn plain_dot(&mut self) -> Result<bool, Bad> {
         loop {
-            match self.byte_after_comment()? {
+            match self.input.byte_after_comment()? {
                 None => return ends_early(),
                 Some(b'0') => return Ok(false),
                 Some(b'1') => return Ok(true),
@@ -136,51 +98,6 @@ impl<R: BufRead> Reader<R> {
             }
         }
     }
-
-    /// A number of the picture's head, with the one byte that ends it.
-    fn size(&mut self, what: &str) -> Result<usize, Bad> {
-        let mut byte = self.byte_after_comment()?;
-        while byte.is_some_and(|byte| byte.is_ascii_whitespace()) {
-            byte = self.byte_after_comment()?;
-        }
-        let mut number = None;
-        while let Some(digit @ b'0'..=b'9') = byte {
-            let longer = number.unwrap_or(0) * 10 + usize::from(digit - b'0');
-            if longer > 999_999_999 {
-                return bad(format!("the picture's {what} has over nine digits"));
-            }
-            number = Some(longer);
-            byte = self.byte_after_comment()?;
-        }
-        match (number, byte) {
-            (Some(number), Some(end)) if end.is_ascii_whitespace() => Ok(number),
-            (_, None) => ends_early(),
-            _ => bad(format!("the picture's {what} is no number")),
-        }
-    }
-
-    /// The next byte, where a comment up to its line's end counts as that end.
-    fn byte_after_comment(&mut self) -> Result<Option<u8>, Bad> {
-        let mut byte = self.byte()?;
-        if byte == Some(b'#') {
-            while !matches!(byte, None | Some(b'\n' | b'\r')) {
-                byte = self.byte()?;
-            }
-        }
-        Ok(byte)
-    }
-
-    fn byte(&mut self) -> Result<Option<u8>, Bad> {
-        let mut byte = [0];
-        match self.input.read(&mut byte)? {
-            0 => Ok(None),
-            _ => Ok(Some(byte[0])),
-        }
-    }
-}
-
-fn ends_early<T>() -> Result<T, Bad> {
-    bad("the picture ends early")
 }
 
 #[cfg(test)]

@@ -169,23 +169,79 @@ fn bad_arguments() {
         ),
         (
             &["explain", "0"],
-            "no refusal has the number `0`: they are 1 to 12 and 21 to 28".to_string(),
+            "no refusal has the number `0`: they are 1 to 12, 21 to 28 and 31 to 36".to_string(),
         ),
         (
             &["explain", "13"],
-            "no refusal has the number `13`: they are 1 to 12 and 21 to 28".to_string(),
+            "no refusal has the number `13`: they are 1 to 12, 21 to 28 and 31 to 36".to_string(),
         ),
         (
             &["explain", "+7"],
-            "no refusal has the number `+7`: they are 1 to 12 and 21 to 28".to_string(),
+            "no refusal has the number `+7`: they are 1 to 12, 21 to 28 and 31 to 36".to_string(),
         ),
         (
             &["explain", "263"],
-            "no refusal has the number `263`: they are 1 to 12 and 21 to 28".to_string(),
+            "no refusal has the number `263`: they are 1 to 12, 21 to 28 and 31 to 36".to_string(),
         ),
     ] {
         let expected = ran(2, "", &format!("printbox: {line}\n"));
         assert_eq!(run(arguments), expected, "{arguments:?}");
+    }
+}
+
+#[test]
+fn bad_arguments_of_strip() {
+    let strip = "; `printbox strip --help` tells more";
+    let make = "; `printbox strip make --help` tells more";
+    let bad = |arguments: &str, line: String| {
+        let words: Vec<&str> = arguments.split(' ').collect();
+        let expected = ran(2, "", &format!("printbox: {line}\n"));
+        assert_eq!(run(&words), expected, "{arguments}");
+    };
+    for (arguments, line) in [
+        ("strip", "FILE is missing"),
+        ("strip -o x", "FILE is missing"),
+        ("strip a -o", "-o needs a folder"),
+        ("strip a -o -", "-o takes a folder, and not standard output"),
+        ("strip a --plain", "there is no option `--plain`"),
+        ("strip - -", "standard input can be read only once"),
+    ] {
+        bad(arguments, format!("{line}{strip}"));
+    }
+    for (arguments, line) in [
+        ("strip make", "PICTURE is missing"),
+        ("strip make a", "-o FILE is missing"),
+        ("strip make a b -o -", "b is one file too many"),
+        ("strip make a -o - --plain=1", "--plain takes no value"),
+        ("strip make a --density", "--density needs a number"),
+        ("strip make a --margins", "--margins needs two numbers"),
+        (
+            "strip make a --palette",
+            "--palette needs two hexadecimal digits",
+        ),
+    ] {
+        bad(arguments, format!("{line}{make}"));
+    }
+    for (option, takes, values) in [
+        (
+            "--palette",
+            "two hexadecimal digits",
+            &["G4", "+4", "4", "0E4", ""][..],
+        ),
+        (
+            "--margins",
+            "two numbers from 0 to 15 with a comma between",
+            &["3", "1,2,3", "16,3", "3,16", "1,+3", "1,", ""],
+        ),
+        ("--density", "a number from 0 to 255", &["256", "-1", "x"]),
+    ] {
+        for value in values {
+            let arguments = format!("strip make a -o - {option}={value}");
+            bad(
+                &arguments,
+                format!("{option} takes {takes}, and not `{value}`"),
+            );
+        }
     }
 }
 
@@ -220,10 +276,12 @@ fn target_is_input() {
         run(&["draw", &sheet, "--load", &sheet, "-o", &same]),
         ran(2, "", &error)
     );
-    assert_eq!(
-        run(&["job", "make", &sheet, "-o", &same]),
-        ran(2, "", &error)
-    );
+    for command in ["job", "strip"] {
+        assert_eq!(
+            run(&[command, "make", &sheet, "-o", &same]),
+            ran(2, "", &error)
+        );
+    }
     assert_eq!(fs::read(&sheet).expect("the sheet"), small_sheet());
 }
 
@@ -241,6 +299,8 @@ fn help() {
         &["job", "check", "--help"],
         &["job", "lines", "--help"],
         &["job", "make", "--help"],
+        &["strip", "--help"],
+        &["strip", "make", "--help"],
         &["explain", "--help"],
     ] {
         let told = run(arguments);
@@ -254,6 +314,9 @@ fn help() {
         let widest = told.output.lines().map(str::len).max();
         assert!(widest <= Some(100), "{arguments:?}");
     }
+    // A command's help is its own, where its word begins another command too.
+    let strip = run(&["strip", "--help"]).output;
+    assert!(strip.starts_with("printbox strip FILE"));
     assert_eq!(run(&["--version"]), ran(0, "printbox 0.1.0\n", ""));
     // After -- it is a file.
     assert_eq!(
@@ -267,7 +330,7 @@ fn help() {
 fn explain() {
     for number in 0..=255 {
         let told = run(&["explain", &number.to_string()]);
-        let is_refusal = matches!(number, 1..=12 | 21..=28);
+        let is_refusal = matches!(number, 1..=12 | 21..=28 | 31..=36);
         assert_eq!(told.status, if is_refusal { 0 } else { 2 }, "{number}");
         if is_refusal {
             assert_eq!(told.error, "");

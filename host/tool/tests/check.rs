@@ -2,12 +2,10 @@
 
 mod common;
 
-use common::{bytes, file, finished, folder, long_job, long_sheet, ran, run, sheet, sheet_words};
-use common::{small_sheet, text, tool};
+use common::{bytes, file, finished, folder, long_job, long_sheet, ran, run, run_on, sheet};
+use common::{sheet_words, small_sheet, text};
 use printbox::FILE_BYTES;
 use std::fs::{self, File};
-use std::io::Write;
-use std::process::Stdio;
 
 #[test]
 fn one_sheet() {
@@ -315,16 +313,7 @@ fn jobs() {
 
 #[test]
 fn standard_input() {
-    let mut child = tool(&["check", "-"])
-        .stdin(Stdio::piped())
-        .stdout(Stdio::piped())
-        .stderr(Stdio::piped())
-        .spawn()
-        .expect("the tool runs");
-    let mut input = child.stdin.take().expect("its standard input");
-    input.write_all(&small_sheet()).expect("the sheet is read");
-    drop(input);
-    let output = child.wait_with_output().expect("it ends");
+    let output = run_on(&["check", "-"], &small_sheet());
     assert_eq!(finished(output), ran(0, "passed, 1 page of 2 bands\n", ""));
 }
 

@@ -15,6 +15,12 @@ fn commands(folder: &std::path::Path) -> Vec<Vec<String>> {
     let picture = file(folder, "picture", b"P1 1 1 1");
     let job = text(&folder.join("job"));
     assert_eq!(run(&["job", "make", &picture, "-o", &job]), ran(0, "", ""));
+    let strip = file(folder, "strip", &common::pbm(160, 1, &[0; 20]));
+    let stream = text(&folder.join("stream"));
+    assert_eq!(
+        run(&["strip", "make", &strip, "-o", &stream]),
+        ran(0, "", "")
+    );
     let lines = [
         vec!["check", &sheet],
         vec!["check", &sheet, &sheet],
@@ -23,6 +29,9 @@ fn commands(folder: &std::path::Path) -> Vec<Vec<String>> {
         vec!["job", "check", &job],
         vec!["job", "lines", &job],
         vec!["job", "make", &picture, "-o", "-"],
+        vec!["strip", &stream],
+        vec!["strip", &stream, &stream],
+        vec!["strip", "make", &strip, "-o", "-"],
         vec!["explain", "7"],
         vec!["--help"],
         vec!["draw", "--help"],

@@ -1,8 +1,9 @@
 //! Writes the stored cases as inputs of the fuzzer, a folder for each target: seeds FOLDER.
 
 use fuzz::common::cases::{case, FILM, GDI};
+use fuzz::common::strip_cases::{self, STRIP};
 use fuzz::common::Entry;
-use fuzz::{film, gdi};
+use fuzz::{film, gdi, strip};
 use std::collections::BTreeSet;
 use std::fs;
 use std::path::Path;
@@ -15,13 +16,18 @@ fn longer(length: usize, should: usize) -> i8 {
 
 fn main() {
     let folder = std::env::args_os().nth(1).expect("a folder for the seeds");
-    let mut seeds: [(&str, BTreeSet<Vec<u8>>); 4] =
-        ["film_check", "film_draw", "gdi_check", "gdi_read_line"]
-            .map(|target| (target, BTreeSet::new()));
+    let mut seeds: [(&str, BTreeSet<Vec<u8>>); 5] = [
+        "film_check",
+        "film_draw",
+        "gdi_check",
+        "gdi_read_line",
+        "strip_receive",
+    ]
+    .map(|target| (target, BTreeSet::new()));
     for line in FILM.lines().chain(GDI.lines()) {
         let case = case(line).expect("a case that can be read");
         let [first, second] = &case.inputs;
-        let [film_checks, film_draws, gdi_checks, gdi_lines] = &mut seeds;
+        let [film_checks, film_draws, gdi_checks, gdi_lines, _] = &mut seeds;
         match case.entry {
             Entry::FilmCheck => {
                 film_checks.1.extend(film::check_seeds(first, second));
@@ -53,6 +59,12 @@ fn main() {
             _ => {}
         }
     }
+    let strips = &mut seeds[4].1;
+    for line in STRIP.lines() {
+        let case = strip_cases::case(line).expect("a case that can be read");
+        strips.extend(strip::receive_seeds(&case.ops));
+    }
+    strips.extend(strip::page_seeds());
     for (target, inputs) in seeds {
         let folder = Path::new(&folder).join(target);
         fs::create_dir_all(&folder).expect("a folder for the target");

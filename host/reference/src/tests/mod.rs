@@ -3,6 +3,7 @@
 mod film;
 mod gdi;
 mod order;
+mod strip;
 
 use crate::Answer;
 

@@ -2,10 +2,13 @@
 
 #![allow(dead_code)] // each test uses some of it
 
+pub mod packets;
+
 use std::ffi::OsStr;
 use std::fs;
+use std::io::Write;
 use std::path::{Path, PathBuf};
-use std::process::{Command, Output};
+use std::process::{Command, Output, Stdio};
 
 /// The tool, with these arguments.
 pub fn tool<A: AsRef<OsStr>>(arguments: &[A]) -> Command {
@@ -60,6 +63,20 @@ pub fn file(folder: &Path, name: &str, content: &[u8]) -> String {
     text(&path)
 }
 
+/// Runs the tool with these arguments and this standard input.
+pub fn run_on<A: AsRef<OsStr>>(arguments: &[A], input: &[u8]) -> Output {
+    let mut child = tool(arguments)
+        .stdin(Stdio::piped())
+        .stdout(Stdio::piped())
+        .stderr(Stdio::piped())
+        .spawn()
+        .expect("the tool runs");
+    let mut standard_input = child.stdin.take().expect("its standard input");
+    standard_input.write_all(input).expect("the input is read");
+    drop(standard_input);
+    child.wait_with_output().expect("it ends")
+}
+
 /// The names of all that is in a folder, in order.
 pub fn names_in(folder: &Path) -> Vec<String> {
     let entries = fs::read_dir(folder).expect("a folder");
@@ -110,6 +127,13 @@ pub fn small_sheet() -> Vec<u8> {
 pub fn pbm(width: usize, height: usize, rows: &[u8]) -> Vec<u8> {
     let mut picture = format!("P4\n{width} {height}\n").into_bytes();
     picture.extend(rows);
+    picture
+}
+
+/// A PGM picture (P5) of so many dots width, in greys up to 255.
+pub fn pgm(width: usize, greys: &[u8]) -> Vec<u8> {
+    let mut picture = format!("P5\n{width} {}\n255\n", greys.len() / width).into_bytes();
+    picture.extend(greys);
     picture
 }
 

@@ -1,0 +1,2 @@
+-- What filling a band means.
+pub mod Puts

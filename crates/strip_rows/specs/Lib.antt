@@ -1,0 +1,2 @@
+-- The table that Print goes by.
+pub mod Table

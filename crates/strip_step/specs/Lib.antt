@@ -1,0 +1,2 @@
+-- What the last byte of a header leaves: Heads.
+pub mod Heads
