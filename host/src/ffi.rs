@@ -72,7 +72,8 @@ pub struct StripRecord {
     pub size: u16,
     /// How many bytes of the body have come.
     pub have: u16,
-    /// The sum of header and body so far.
+    /// The sum of header and body so far; after a packet that was refused with 31, the sum that its
+    /// checksum is not.
     pub sum: u16,
     /// The low byte of the length, and then of the checksum.
     pub low: u8,

@@ -93,12 +93,6 @@ impl Record {
     pub fn new() -> Record {
         ffi::strip_new()
     }
-
-    /// The sum of the packet's header and body bytes so far. After a packet that was refused with
-    /// 31 it is the sum that its checksum is not.
-    pub fn sum(&self) -> u16 {
-        self.sum
-    }
 }
 
 impl Default for Record {

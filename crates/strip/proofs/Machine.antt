@@ -2,16 +2,15 @@
 use mathlib.Core.Path.{_≡_, refl, sym, ap, _∙_}
 use mathlib.Core.Bool.{Bool, true, false, cond}
 use mathlib.Core.List.{List, [], _∷_, _++_, append-assoc, append-nil}
-use Prim.Native.Nat.{ℕ, zero, suc, _+_, _*_, _≤_, _<_}
+use Prim.Native.Nat.{ℕ, zero, suc, _+_, _≤_, _<_}
 use native.Mathlib.Omega.{arith}
-use native.Mathlib.Numerals.{add-one}
 use borrow.Author.Tests.{lt-ltb, le-ltb, ltb-true, ltb-false}
 use lib.Dec.{eqb, ltb}
 use lib.ListN.{length, getD, take, drop, length-append, length-drop}
-use lib.Seq.{drop-drop, drop-nil}
+use lib.Seq.{drop-drop}
 use Rattle.strip.specs.Packets.{fitting, number}
 use Rattle.strip.specs.Actions.{Action, initialize, add, endPage, print, inquire, refuse}
-use Rattle.strip.specs.Reading.{Bands, Place, searching, half, inHeader, inBody, inSum, inClock, Said, quiet, acknowledged, status, initialized, added, ended, inquired, printed, refused, Reading, reading, Next, ends, on, acted, carriedOut, asked, afterBody, afterHeader, packet, after88, follow, readOn}
+use Rattle.strip.specs.Reading.{Bands, Place, searching, half, inHeader, inBody, inSum, inClock, Said, quiet, acknowledged, status, initialized, added, ended, inquired, printed, refused, Reading, reading, on, acted, carriedOut, asked, afterBody, afterHeader, packet, after88, follow, readOn}
 
 -- ---- the machine
 

@@ -5,25 +5,23 @@ use mathlib.Core.List.{List, [], _∷_, _++_, append-assoc, append-nil}
 use Prim.Native.Nat.{ℕ, zero, suc, _+_, _*_, _/_, _%_, _≤_, _<_}
 use native.Mathlib.Omega.{arith}
 use native.Mathlib.Numerals.{add-one}
-use native.Mathlib.Nat.{mod-eq-of-lt}
-use borrow.Author.Tests.{lt-ltb, le-ltb, ltb-true, ltb-false, leb-true, leb-false, eqb-true, eqb-false}
+use borrow.Author.Tests.{lt-ltb, le-ltb, ltb-true, leb-true, leb-false, eqb-true, eqb-false}
 use lib.Dec.{eqb, ltb, leb}
 use lib.ListN.{length, getD, take, drop, set, length-append, length-set}
 use lib.Seq.{length-take-le, take-suc-set, take-at, getD-take}
 use Rattle.strip.specs.declared.Receiver.{Receiver}
 use Rattle.strip.specs.declared.Phase.{Phase}
 use Rattle.strip.specs.declared.Phase.the-variants.{Hunt, Mark, Command, Indicator, Low, High, Body, SumLow, SumHigh, ClockFirst, ClockSecond}
-use Rattle.strip.specs.declared.Answer.{Answer}
-use Rattle.strip.specs.declared.Answer.the-variants.{Reply, Initialized, Added, Ended, Inquired, Printed, Refused}
+use Rattle.strip.specs.declared.Answer.the-variants.{Reply, Added, Printed, Refused}
 use Rattle.strip.specs.Packets.{fitting, number, add16, sumFrom, checksum}
 use Rattle.strip.specs.Coding.{Expansion, whole, cut, expand}
 use Rattle.strip.specs.Actions.{Action, initialize, add, endPage, print, inquire, refuse, action, ofExpansion, ofData, ofCommand}
-use Rattle.strip.specs.Reading.{Bands, Place, searching, half, inHeader, inBody, inSum, inClock, Said, quiet, acknowledged, status, initialized, added, ended, inquired, printed, refused, Reading, reading, asked}
-use Rattle.strip.specs.Step.{After, receiver, leaves, noted, at, holding, withByte, bodied, placed, carried, headed, taken}
+use Rattle.strip.specs.Reading.{Bands, searching, half, inHeader, inBody, inSum, inClock, quiet, status, printed, refused, Reading, reading, asked}
+use Rattle.strip.specs.Step.{After, receiver, leaves, noted, at, placed, carried, taken}
 use Rattle.strip.specs.Streams.{headOf, bodyOf, placeAt, SumIs, joined, answerOf, dotsOf}
 use Rattle.strip.specs.Dots as rows
 use Rattle.strip.specs.Dots.{listed, fourDots, tileByte, dotOf}
-use Rattle.strip.proofs.Machine.{sizeIn, bodyOrSum, headMoved, decided, moved}
+use Rattle.strip.proofs.Machine.{sizeIn, bodyOrSum, decided, moved}
 
 -- ---- what holds of a record between bytes
 
@@ -103,6 +101,15 @@ module _ (bs : List ℕ) (n : ℕ) where
       let y : ℕ = j / 40 in
       let x : ℕ = 4 * (j % 40) in
       λ i. 64 * dot-same p y x (omega arith) (omega arith) i + 16 * dot-same p y (x + 1) (omega arith) (omega arith) i + 4 * dot-same p y (x + 2) (omega arith) (omega arith) i + dot-same p y (x + 3) (omega arith) (omega arith) i
+
+-- ---- below a length that fits, there is room
+
+narrow : (h s : ℕ) → s ≤ 648 → (ltb h s && ltb h 648) ≡ ltb h s
+narrow h s l = go (ltb h s) refl
+  where
+    go : (t : Bool) → ltb h s ≡ t → (t && ltb h 648) ≡ t
+    go true e = lt-ltb h 648 (omega (arith, ltb-true h s e))
+    go false e = refl
 
 -- ---- what a fitting header and an added band tell
 
@@ -257,7 +264,8 @@ module _ (r : Receiver) (w : Bands) (b : ℕ) (bs ds : List ℕ) (byte : b < 256
   bodies f =
       let t : ltb (r .have) 648 ≡ true = lt-ltb (r .have) 648 (omega arith) in
       let k : ltb (length (bodyOf r ++ (b ∷ []))) (sizeIn (headOf r)) ≡ ltb (r .have + 1) (r .size) = λ j. ltb (longer j) (digits-whole (r .size) j) in
-      rw (t, k) (go (ltb (r .have + 1) (r .size)) refl)
+      let m : (ltb (r .have + 1) (r .size) && ltb (r .have + 1) 648) ≡ ltb (r .have + 1) (r .size) = narrow (r .have + 1) (r .size) (f .extra .1) in
+      rw (t, k, m) (go (ltb (r .have + 1) (r .size)) refl)
     where
       longer : length (bodyOf r ++ (b ∷ [])) ≡ r .have + 1
       longer = length-append (bodyOf r) (b ∷ []) ∙ ap (λ (x : ℕ). x + 1) (length-take-le (r .have) (r .body) (omega arith))

@@ -2,21 +2,21 @@
 use mathlib.Core.Path.{_≡_, refl, sym, ap, _∙_, subst}
 use mathlib.Core.Bool.{Bool, true, false, cond, _||_}
 use mathlib.Core.List.{List, [], _∷_, _++_}
-use Prim.Native.Nat.{ℕ, zero, suc, _+_, _*_, _≤_, _<_}
+use Prim.Native.Nat.{ℕ, _+_, _≤_, _<_}
 use native.Mathlib.Omega.{arith}
 use borrow.Author.Tests.{ltb-false}
 use lib.Dec.{eqb, ltb}
-use lib.ListN.{length, take}
+use lib.ListN.{length}
 use Rattle.strip.specs.declared.Receiver.{Receiver}
 use Rattle.strip.specs.declared.Phase.{Phase}
 use Rattle.strip.specs.declared.Phase.the-variants.{Hunt, Mark, Command, Indicator, Low, High, Body, SumLow, SumHigh, ClockFirst, ClockSecond}
 use Rattle.strip.specs.declared.Answer.{Answer}
-use Rattle.strip.specs.declared.Answer.the-variants.{Reply, Initialized, Added, Ended, Inquired, Printed, Refused}
+use Rattle.strip.specs.declared.Answer.the-variants.{Reply, Refused}
 use Rattle.strip.specs.Packets.{fitting, number, add16}
 use Rattle.strip.specs.Actions.{Action, initialize, add, endPage, print, inquire, refuse, action}
-use Rattle.strip.specs.Reading.{Bands, Place, searching, quiet, Reading, reading, plainly, readOn}
-use Rattle.strip.specs.Step.{After, leaves, noted, at, carried, headed, taken, unusable, stepIn, stepOf, Steps, withStatus, newRecord}
-use Rattle.strip.specs.Streams.{waitingIn, Stream, new, took, not-taken, host, others, headOf, bodyOf, placeAt, placeOf, SumIs, joined, Shows, answerOf, dotsOf, Unchanged, ReceivedPlainly}
+use Rattle.strip.specs.Reading.{Bands, Place, searching, quiet, Reading, reading, plainly}
+use Rattle.strip.specs.Step.{After, leaves, noted, at, carried, taken, unusable, stepIn, stepOf, Steps, withStatus}
+use Rattle.strip.specs.Streams.{Stream, new, took, not-taken, host, others, bodyOf, placeAt, placeOf, SumIs, joined, Shows, answerOf, dotsOf, Unchanged, ReceivedPlainly}
 use Rattle.strip.proofs.Laws.{usable}
 use Rattle.strip.proofs.Machine.{moved, runs, runs-snoc, runs-read}
 use Rattle.strip.proofs.Refines.{Extra, Fine, Follows, Bounded, bounded, refines}

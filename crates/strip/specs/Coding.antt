@@ -1,11 +1,11 @@
 -- A run-coded body. A first byte of 128 and more: its low seven bits plus two times the byte after it, so up to 129. Below 128: that number plus
 -- one bytes follow as they are, up to 128.
 use mathlib.Core.Path.{_≡_, refl}
-use mathlib.Core.Bool.{Bool, true, false, cond}
+use mathlib.Core.Bool.{cond}
 use mathlib.Core.List.{List, [], _∷_, _++_}
-use Prim.Native.Nat.{ℕ, zero, suc, _+_, _*_, _%_}
-use lib.Dec.{eqb, leb}
-use lib.ListN.{length, replicate}
+use Prim.Native.Nat.{ℕ, zero, suc, _+_, _%_}
+use lib.Dec.{leb}
+use lib.ListN.{replicate}
 use Rattle.strip.specs.declared.Run.{Run}
 use Rattle.strip.specs.declared.Run.the-variants.{First, Copied, Literal}
 

@@ -1,7 +1,7 @@
 -- Tiles, palette and the printed rows. A band is 40 tiles of 16 bytes, 20 to a tile row; bands lie one after another, so tile row t of the page
 -- begins at byte 320 · t. A tile's row is two bytes, the first with the low bits, bit 7 leftmost.
 use mathlib.Core.Path.{_≡_, refl}
-use mathlib.Core.Bool.{Bool, cond, _&&_}
+use mathlib.Core.Bool.{cond, _&&_}
 use mathlib.Core.List.{List, [], _∷_, _++_}
 use lib.Dec.{leb}
 use Prim.Native.Nat.{ℕ, zero, suc, _+_, _*_, _-_, _/_, _%_, _^_}

@@ -1,6 +1,6 @@
 -- A packet of the strip printer's line: the mark 88 33, four header bytes (command, indicator, length low byte first), the body, two checksum bytes (low
 -- byte first).
-use mathlib.Core.Path.{_≡_, refl}
+use mathlib.Core.Path.{_≡_}
 use mathlib.Core.Bool.{Bool, true, false, cond, _&&_, _||_}
 use mathlib.Core.List.{List, [], _∷_}
 use Prim.Native.Nat.{ℕ, _+_, _*_, _%_}

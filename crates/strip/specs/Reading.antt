@@ -1,9 +1,9 @@
 -- The plain reading of a stream: find the mark, take the packet after it, act or refuse, pass the two clock bytes, go on.
 use mathlib.Core.Path.{_≡_, refl}
-use mathlib.Core.Bool.{Bool, true, false, cond, not}
+use mathlib.Core.Bool.{cond}
 use mathlib.Core.List.{List, [], _∷_, _++_}
-use Prim.Native.Nat.{ℕ, zero, suc, _+_, _*_}
-use lib.Dec.{eqb, ltb, leb}
+use Prim.Native.Nat.{ℕ, zero, suc, _+_}
+use lib.Dec.{eqb, ltb}
 use lib.ListN.{length, getD, take, drop, replicate}
 use Rattle.strip.specs.Packets.{firstMark, secondMark, fitting, number, checksum, sumFrom}
 use Rattle.strip.specs.Coding.{expandFrom}

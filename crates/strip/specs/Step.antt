@@ -1,9 +1,9 @@
 -- One byte comes: what a record, its answer and the two lent buffers are then. It says so of every record.
 use mathlib.Core.Path.{_≡_, refl}
-use mathlib.Core.Bool.{Bool, true, false, cond, _||_}
-use mathlib.Core.List.{List, [], _∷_, _++_}
+use mathlib.Core.Bool.{Bool, cond, _&&_, _||_}
+use mathlib.Core.List.{List, [], _++_}
 use Prim.Native.Nat.{ℕ, _+_, _*_}
-use lib.Dec.{eqb, ltb, leb}
+use lib.Dec.{eqb, ltb}
 use lib.ListN.{length, take, drop, set, replicate}
 use Rattle.strip.specs.declared.Receiver.{Receiver}
 use Rattle.strip.specs.declared.Phase.{Phase}
@@ -50,11 +50,14 @@ at r phase = noted r phase (r .command) (r .indicator) (r .size) (r .have) (r .s
 abbrev pub holding : Receiver → (bands : ℕ) → Receiver
 holding r n = receiver (r .phase) (r .command) (r .indicator) (r .size) (r .have) (r .sum) (r .low) (r .status) n (r .body)
 
--- one more body byte, where there is room for it; after the last of them the checksum comes
-abbrev pub withByte : Receiver → ℕ → (have : ℕ) → (body : List ℕ) → Receiver
-withByte r b have body =
-    receiver (cond (ltb have (r .size)) Body SumLow) (r .command) (r .indicator) (r .size) have (add16 (r .sum) b) (r .low) (r .status) (r .bands) body
+-- after so many body bytes: one more, or the checksum where all came; after 648 it comes whatever the length says
+abbrev pub afterByte : (have size : ℕ) → Phase
+afterByte have size = cond (ltb have size && ltb have mostBody) Body SumLow
 
+abbrev pub withByte : Receiver → ℕ → (have : ℕ) → (body : List ℕ) → Receiver
+withByte r b have body = receiver (afterByte have (r .size)) (r .command) (r .indicator) (r .size) have (add16 (r .sum) b) (r .low) (r .status) (r .bands) body
+
+-- one more body byte, kept where there is room for it
 abbrev pub bodied : Receiver → ℕ → Receiver
 bodied r b = cond (ltb (r .have) mostBody) (withByte r b (r .have + 1) (set (r .body) (r .have) b)) (withByte r b (r .have) (r .body))
 
@@ -117,3 +120,56 @@ withStatus v r = receiver (r .phase) (r .command) (r .indicator) (r .size) (r .h
 -- a new record
 abbrev pub newRecord : Receiver
 newRecord = receiver Hunt 0 0 0 0 0 0 0 0 (replicate 648 0)
+
+-- ---- worked cases: what a byte leaves of a record, and records that no stream leaves. What a stream does is worked out in Reading and Witness
+
+-- a record of command 02 with these numbers and a body of 7s
+abbrev odd : Phase → (size have sum low bands : ℕ) → Receiver
+odd phase size have sum low bands = receiver phase 0x02 0 size have sum low 0 bands (replicate 648 7)
+
+-- a record in which no two numbers are alike but the sum and the low byte
+abbrev mixed : Phase → (command indicator sum low bands : ℕ) → Receiver
+mixed phase command indicator sum low bands = receiver phase command indicator 3 4 sum low 5 bands (replicate 648 7)
+
+pub record StepCases : Type 0 where
+  -- what a byte does not speak of stays
+  pub at-command : taken Command (mixed Command 1 2 8 6 9) 0x0F [] [] .rec ≡ mixed Indicator 0x0F 2 0x0F 6 9
+  pub at-indicator : taken Indicator (mixed Indicator 1 2 8 6 9) 0x10 [] [] .rec ≡ mixed Low 1 0x10 0x18 6 9
+  pub at-low : taken Low (mixed Low 1 2 8 6 9) 0x10 [] [] .rec ≡ mixed High 1 2 0x18 0x10 9
+  pub at-sum : taken SumLow (mixed SumLow 1 2 8 6 9) 0x10 [] [] .rec ≡ mixed SumHigh 1 2 8 0x10 9
+  pub empties : taken SumHigh (mixed SumHigh 1 2 6 6 9) 0 [] [] .rec ≡ mixed ClockFirst 1 2 6 6 0
+  pub refused-31 : taken SumHigh (mixed SumHigh 1 2 8 6 9) 0 [] [] .rec ≡ mixed Hunt 1 2 8 6 9
+  pub refused-33 : taken High (mixed High 1 2 8 6 9) 0 [] [] .rec ≡ mixed Hunt 1 2 8 6 9
+  -- more body bytes than the length: the next is kept, and the checksum comes
+  pub past-length : taken Body (odd Body 4 5 0 0 0) 9 [] [] .rec ≡ receiver SumLow 0x02 0 4 6 9 0 0 0 (set (replicate 648 7) 5 9)
+  -- no room: the byte is not kept, and the checksum comes whatever the length says
+  pub no-room : taken Body (odd Body 700 648 1 0 0) 9 [] [] .rec ≡ odd SumLow 700 648 10 0 0
+  pub last-room : taken Body (odd Body 700 647 1 0 0) 9 [] [] .rec ≡ receiver SumLow 0x02 0 700 648 10 0 0 0 (set (replicate 648 7) 647 9)
+  -- Print with two body bytes: palette and density are 0
+  pub short-print : taken SumHigh (odd SumHigh 4 2 1 1 0) 0 [] [] .answer ≡ Printed 0 7 0
+  pub ten-bands : stepIn Hunt (odd Hunt 0 0 0 0 10) 0x88 (replicate 5760 0) (replicate 5760 0) .answer ≡ Refused 36 0
+  pub body-649 : stepIn Hunt (odd Hunt 0 649 0 0 9) 0x88 (replicate 5760 0) (replicate 5760 0) .answer ≡ Refused 36 0
+  pub just-usable : stepIn Hunt (odd Hunt 0 648 0 0 9) 0x88 (replicate 5760 0) (replicate 5760 0) .answer ≡ Reply 0
+  pub bands-5759 : stepIn Hunt (odd Hunt 0 0 0 0 0) 0x88 (replicate 5759 0) (replicate 5760 0) .answer ≡ Refused 36 0
+  pub dots-5759 : stepIn Hunt (odd Hunt 0 0 0 0 0) 0x88 (replicate 5760 0) (replicate 5759 0) .answer ≡ Refused 36 0
+
+pub step-cases : StepCases
+unfolding fitting action stepIn unusable
+step-cases = record {
+  at-command = refl;
+  at-indicator = refl;
+  at-low = refl;
+  at-sum = refl;
+  empties = refl;
+  refused-31 = refl;
+  refused-33 = refl;
+  past-length = refl;
+  no-room = refl;
+  last-room = refl;
+  short-print = refl;
+  ten-bands = refl;
+  body-649 = refl;
+  just-usable = refl;
+  bands-5759 = refl;
+  dots-5759 = refl;
+}

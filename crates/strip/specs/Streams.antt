@@ -1,6 +1,5 @@
 -- The statement about streams.
-use mathlib.Core.Path.{_≡_, refl}
-use mathlib.Core.Bool.{Bool, true, false, cond}
+use mathlib.Core.Path.{_≡_}
 use mathlib.Core.List.{List, [], _∷_, _++_}
 use Prim.Native.Nat.{ℕ, _+_, _*_, _/_, _%_, _≤_, _<_}
 use lib.ListN.{length, take}
@@ -9,7 +8,7 @@ use Rattle.strip.specs.declared.Phase.{Phase}
 use Rattle.strip.specs.declared.Phase.the-variants.{Hunt, Mark, Command, Indicator, Low, High, Body, SumLow, SumHigh, ClockFirst, ClockSecond}
 use Rattle.strip.specs.declared.Answer.{Answer}
 use Rattle.strip.specs.declared.Answer.the-variants.{Reply, Initialized, Added, Ended, Inquired, Printed, Refused}
-use Rattle.strip.specs.Packets.{checksum, sumFrom}
+use Rattle.strip.specs.Packets.{checksum}
 use Rattle.strip.specs.Dots as rows
 use Rattle.strip.specs.Reading.{Place, searching, half, inHeader, inBody, inSum, inClock, Said, quiet, acknowledged, status, initialized, added, ended, inquired, printed, refused, Reading, plainly, Bands}
 use Rattle.strip.specs.Step.{Steps, withStatus, newRecord}

@@ -1,19 +1,16 @@
 -- That the statement about streams speaks of something: whatever comes makes a stream. And one is worked out, byte by byte: a page of nine bands, plain and
 -- coded, a tenth, a wrong checksum, a Print, a status that is set between two clock bytes, an Initialize.
 use mathlib.Core.Path.{_≡_, refl}
-use mathlib.Core.Bool.{Bool, true, false, cond}
 use mathlib.Core.List.{List, [], _∷_, _++_}
-use Prim.Native.Nat.{ℕ, zero, suc, _+_, _*_, _/_, _%_, _≤_, _<_}
-use lib.Dec.{eqb, ltb, leb}
+use Prim.Native.Nat.{ℕ, zero, suc, _+_, _/_, _%_, _≤_, _<_}
 use lib.ListN.{length, take, replicate}
-use Rattle.strip.specs.declared.Receiver.{Receiver}
 use Rattle.strip.specs.declared.Answer.{Answer}
 use Rattle.strip.specs.declared.Answer.the-variants.{Reply, Initialized, Added, Ended, Inquired, Printed, Refused}
 use Rattle.strip.specs.Packets.{fitting, sumFrom, checksum}
 use Rattle.strip.specs.Coding.{expandFrom}
 use Rattle.strip.specs.Actions.{action}
 use Rattle.strip.specs.Dots.{printed, fourDots, listed}
-use Rattle.strip.specs.Reading.{Bands, Reading, reading, plainly, readOn, packet, searching, inClock, status}
+use Rattle.strip.specs.Reading.{reading, plainly, readOn, packet, searching, status}
 use Rattle.strip.specs.Step.{After, leaves, stepIn, stepOf, unusable, withStatus, newRecord}
 use Rattle.strip.specs.Streams.{Stream}
 

@@ -1,8 +1,8 @@
 -- Laws that the functions' proofs cite, over plain lists and numbers. Assumes nothing.
-use mathlib.Core.Path.{_≡_, refl, sym, ap, _∙_}
-use mathlib.Core.Bool.{Bool, true, false, cond, _&&_}
-use mathlib.Core.List.{List, [], _∷_, _++_, append-assoc}
-use Prim.Native.Nat.{ℕ, zero, suc, _+_, _*_, _-_, _≤_, _<_}
+use mathlib.Core.Path.{_≡_, sym, ap, _∙_}
+use mathlib.Core.Bool.{Bool, true, false, cond}
+use mathlib.Core.List.{List, _++_, append-assoc}
+use Prim.Native.Nat.{ℕ, _+_, _*_, _-_, _≤_, _<_}
 use native.Mathlib.Omega.{arith}
 use native.Mathlib.Numerals.{add-one}
 use borrow.Author.Tests.{eq-eqb, ne-eqb, le-leb, lt-leb}
@@ -16,7 +16,7 @@ use Rattle.strip.specs.declared.Answer.the-variants.{Initialized, Added, Ended,
 use Rattle.strip.specs.Packets.{number}
 use Rattle.strip.specs.Dots.{printed, printing}
 use Rattle.strip.specs.Actions.{Action, initialize, add, endPage, print, inquire, refuse, action, ofExpansion, ofData}
-use Rattle.strip.specs.Coding.{Expansion, whole, expand}
+use Rattle.strip.specs.Coding.{whole, expand}
 use Rattle.strip.specs.Step.{After, at, holding, placed, leaves, carried, taken, unusable, stepIn}
 
 -- ---- the body that came

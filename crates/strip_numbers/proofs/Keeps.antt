@@ -7,10 +7,9 @@ use lib.ListN.{length}
 use Rattle.strip.specs.declared.Receiver.{Receiver}
 use Rattle.strip.specs.declared.Phase.{Phase}
 use Rattle.strip.specs.declared.Phase.the-variants.{Hunt, Mark, Command, Indicator, Low, High, Body, SumLow, SumHigh, ClockFirst, ClockSecond}
-use Rattle.strip.specs.declared.Answer.{Answer}
 use Rattle.strip.specs.declared.Answer.the-variants.{Refused}
-use Rattle.strip.specs.Step.{After, receiver, leaves, taken, unusable, stepIn, stepOf, Steps, newRecord}
-use Rattle.strip_numbers.specs.Numbers.{phaseOf, numberOf, receiverOf, recordOf, answerOf, refusal, Outcome, outcome, ofAfter, numberStep, NumberSteps}
+use Rattle.strip.specs.Step.{receiver, leaves, taken, unusable, stepIn, stepOf, newRecord}
+use Rattle.strip_numbers.specs.Numbers.{phaseOf, numberOf, receiverOf, recordOf, refusal, Outcome, outcome, ofAfter, numberStep, NumberSteps}
 use Rattle.strip_numbers.specs.Keeps.{KeepsPromise, Keeps}
 use Rattle.strip_numbers.specs.declared.StripRecord.{StripRecord}
 use Rattle.strip_numbers.specs.declared.StripAnswer.{StripAnswer}

@@ -2,7 +2,6 @@
 use mathlib.Core.Path.{_≡_}
 use mathlib.Core.List.{List}
 use Prim.Native.Nat.{ℕ}
-use Rattle.strip.specs.declared.Receiver.{Receiver}
 use Rattle.strip.specs.declared.Answer.{Answer}
 use Rattle.strip.specs.Step.{Steps, withStatus, newRecord}
 use Rattle.strip_numbers.specs.Numbers.{receiverOf, recordOf, recordWithStatus, answerOf, NumberSteps}

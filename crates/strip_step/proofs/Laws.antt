@@ -1,19 +1,19 @@
 -- Laws that the functions' proofs cite, over plain lists and numbers. Assumes nothing.
 use mathlib.Core.Path.{_≡_, refl, sym, ap, _∙_}
-use mathlib.Core.Bool.{Bool, true, false, cond, _&&_, _||_}
+use mathlib.Core.Bool.{Bool, true, false, cond}
 use mathlib.Core.List.{List}
 use Prim.Native.Nat.{ℕ, zero, suc, _+_, _≤_, _<_}
 use native.Mathlib.Omega.{arith}
 use borrow.Author.Tests.{lt-ltb, le-ltb, ne-eqb, le-leb}
-use lib.Dec.{eqb, ltb, leb}
+use lib.Dec.{eqb, leb}
 use lib.ListN.{length, set}
 use Rattle.strip.specs.declared.Receiver.{Receiver}
 use Rattle.strip.specs.declared.Phase.{Phase}
-use Rattle.strip.specs.declared.Phase.the-variants.{Hunt, Body, SumLow, SumHigh}
+use Rattle.strip.specs.declared.Phase.the-variants.{Hunt, Body, SumLow}
 use Rattle.strip.specs.declared.Answer.{Answer}
 use Rattle.strip.specs.declared.Answer.the-variants.{Reply, Refused}
 use Rattle.strip.specs.Packets.{fitting, add16, number}
-use Rattle.strip.specs.Step.{After, receiver, noted, at, withByte, bodied, leaves, headed, taken, unusable, stepIn, stepOf}
+use Rattle.strip.specs.Step.{After, receiver, noted, at, afterByte, withByte, bodied, leaves, headed, taken, unusable, stepIn, stepOf}
 
 -- ---- what fits
 
@@ -72,15 +72,22 @@ module _ (c i n : ℕ) where
 
 -- ---- a body byte
 
-pub byte-noted : (r : Receiver) (b have : ℕ) (body : List ℕ) (phase : Phase) (sum : ℕ) → phase ≡ cond (ltb have (r .size)) Body SumLow → sum ≡ add16 (r .sum) b
+pub byte-noted : (r : Receiver) (b have : ℕ) (body : List ℕ) (phase : Phase) (sum : ℕ) → phase ≡ afterByte have (r .size) → sum ≡ add16 (r .sum) b
     → receiver phase (r .command) (r .indicator) (r .size) have sum (r .low) (r .status) (r .bands) body ≡ withByte r b have body
 byte-noted r b have body phase sum p q = λ i. receiver (p i) (r .command) (r .indicator) (r .size) have (q i) (r .low) (r .status) (r .bands) body
 
-pub byte-kept : (r x : Receiver) (b : ℕ) → r .have < 648 → x ≡ withByte r b (r .have + 1) (set (r .body) (r .have) b) → x ≡ bodied r b
-byte-kept r x b l e = let t : ltb (r .have) 648 ≡ true = lt-ltb (r .have) 648 l in rw t e
+module _ (r x : Receiver) (b : ℕ) where
+  abbrev kept : Receiver
+  kept = withByte r b (r .have + 1) (set (r .body) (r .have) b)
 
-pub byte-dropped : (r x : Receiver) (b : ℕ) → 648 ≤ r .have → x ≡ withByte r b (r .have) (r .body) → x ≡ bodied r b
-byte-dropped r x b l e = let t : ltb (r .have) 648 ≡ false = le-ltb (r .have) 648 l in rw t e
+  abbrev dropped : Receiver
+  dropped = withByte r b (r .have) (r .body)
+
+  pub byte-kept : r .have < 648 → x ≡ withByte r b (r .have + 1) (set (r .body) (r .have) b) → x ≡ bodied r b
+  byte-kept l e = e ∙ ap (λ (t : Bool). cond t kept dropped) (sym (lt-ltb (r .have) 648 l))
+
+  pub byte-dropped : 648 ≤ r .have → x ≡ withByte r b (r .have) (r .body) → x ≡ bodied r b
+  byte-dropped l e = e ∙ ap (λ (t : Bool). cond t kept dropped) (sym (le-ltb (r .have) 648 l))
 
 -- ---- the header's last byte
 

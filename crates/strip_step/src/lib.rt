@@ -1,10 +1,10 @@
 // One byte to the strip printer's receiver, by value.
 ghost use mathlib.Core.Path.{_≡_};
 ghost use mathlib.Core.Bool.{false, cond};
-ghost use lib.Dec.{eqb, ltb};
+ghost use lib.Dec.{eqb};
 ghost use lib.ListN.{length};
 ghost use Rattle.strip.specs.Packets.{fitting, add16};
-ghost use Rattle.strip.specs.Step.{noted, at, withByte, bodied, leaves, taken, unusable, Steps};
+ghost use Rattle.strip.specs.Step.{noted, at, afterByte, withByte, bodied, leaves, taken, unusable, Steps};
 ghost use Rattle.strip_step.specs.Heads.{Heads};
 use strip::Answer;
 use strip::Phase;
@@ -110,12 +110,15 @@ fn note(
 
 // The phase after a body byte.
 fn after_body(have: u16, size: u16) -> Phase
-    ensures { λ r. ⌜ r ≡ cond (ltb have size) Phase.Body Phase.SumLow ⌝ }
+    ensures { λ r. ⌜ r ≡ afterByte have size ⌝ }
 {
-    if have < size {
-        return Phase::Body;
+    if size <= have {
+        return Phase::SumLow;
     }
-    Phase::SumLow
+    if 648 <= have {
+        return Phase::SumLow;
+    }
+    Phase::Body
 }
 
 fn with_byte(rec: Receiver, byte: u8, have: u16, body: [u8; 648]) -> Receiver

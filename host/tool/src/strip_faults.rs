@@ -13,7 +13,7 @@ pub fn words(refusal: &Refusal, record: &Record, byte: u8) -> String {
     let number = u16::from_le_bytes([record.low, byte]);
     let command = record.command;
     let what = match refusal.number {
-        31 => format!("checksum {number:04X}, and the sum is {:04X}", record.sum()),
+        31 => format!("checksum {number:04X}, and the sum is {:04X}", record.sum),
         32 => format!("there is no command {command:02X}"),
         33 => format!(
             "command {command:02X} with indicator {:02X} and length {number}, and {}",

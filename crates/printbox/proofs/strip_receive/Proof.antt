@@ -43,7 +43,6 @@ use denote.Exit.{yes}
 use denote.Signature.{plain}
 use Rattle.strip_numbers.specs.declared.StripRecord.{StripRecord}
 use Rattle.strip_numbers.specs.declared.StripStepped.{StripStepped}
-use Rattle.strip_numbers.specs.declared.StripAnswer.{StripAnswer}
 use Rattle.strip_numbers.specs.Numbers.{NumberSteps}
 use Rattle.strip_numbers.proofs.StripRecord as T
 use Rattle.strip_numbers.proofs.StripRecord.Laws as T′

@@ -3,7 +3,6 @@ use Prim.Native.Nat.{_≤_, _-_, _*_}
 use mathlib.Core.Path.{_≡_, refl, _∙_, ap}
 use lib.ListN.{length}
 use lib.Seq.{paste, paste-zero, length-paste}
-use borrow.Author.Needs.{needs}
 use native.Mathlib.Omega.{arith}
 use Rattle.strip_close.proofs.Laws.{band-more, band-done}
 use Rattle.strip_close.proofs.place_band.Statement.{statement}
