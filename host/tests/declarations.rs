@@ -230,3 +230,21 @@ fn header_names_the_proved_refusals() {
         }
     }
 }
+
+/// The header's numbers of the strip printer are those of the Rust crate.
+#[test]
+fn header_has_the_sizes_of_the_crate() {
+    use printbox::strip;
+    let defined = |name: &str| -> usize {
+        let start = format!("#define PRINTBOX_STRIP_{name} ");
+        let value = between(HEADER, &start, "\n").next().expect("the name");
+        value.parse().expect("a number")
+    };
+    assert_eq!(defined("WIDTH"), strip::WIDTH);
+    assert_eq!(defined("ROW_BYTES"), strip::ROW_BYTES);
+    assert_eq!(defined("BAND_ROWS"), strip::BAND_ROWS);
+    assert_eq!(defined("BAND_BYTES"), strip::BAND_BYTES);
+    assert_eq!(defined("BANDS"), strip::BANDS);
+    assert_eq!(defined("BYTES"), strip::PAGE_BYTES);
+    assert_eq!(defined("BODY_BYTES"), strip::BODY_BYTES);
+}
