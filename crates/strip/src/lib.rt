@@ -93,6 +93,16 @@ pub fn go_to(rec: Receiver, phase: Phase) -> Receiver
     }
 }
 
+// A refusal: the search for a mark begins at the next byte.
+pub fn refuse_with(rec: Receiver, number: u8) -> Stepped
+    ensures { λ r. ⌜ (r .rec ≡ at rec Phase.Hunt) × (r .answer ≡ Answer.Refused number 0) ⌝ }
+{
+    Stepped {
+        rec: go_to(rec, Phase::Hunt),
+        answer: Answer::Refused(number, 0),
+    }
+}
+
 // A number in two bytes.
 pub fn number_of(low: u8, high: u8) -> u16
     ensures { λ r. ⌜ r ≡ number low high ⌝ }

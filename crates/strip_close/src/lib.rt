@@ -1,10 +1,9 @@
 // The second checksum byte: the packet acts, or is refused.
 ghost use mathlib.Core.Path.{_≡_};
-ghost use mathlib.Core.Bool.{false};
 ghost use Prim.Native.Nat.{_≤_, _<_};
 ghost use lib.ListN.{length, getD, take};
 ghost use Rattle.strip.specs.Actions.{action, print, ofData};
-ghost use Rattle.strip.specs.Step.{at, holding, placed, leaves, carried, stepIn, unusable};
+ghost use Rattle.strip.specs.Step.{at, holding, placed, leaves, carried, stepIn};
 use strip::Answer;
 use strip::Phase;
 use strip::Receiver;
@@ -12,6 +11,7 @@ use strip::Stepped;
 use strip::go_to;
 use strip::is_unusable;
 use strip::number_of;
+use strip::refuse_with;
 
 // The record with so many waiting bands.
 fn hold(rec: Receiver, bands: u8) -> Receiver
@@ -30,16 +30,6 @@ fn hold(rec: Receiver, bands: u8) -> Receiver
         status: rec.status,
         bands: bands,
         body: body,
-    }
-}
-
-// A refusal: the search for a mark begins at the next byte.
-fn refuse_with(rec: Receiver, number: u8) -> Stepped
-    ensures { λ r. ⌜ (r .rec ≡ at rec Phase.Hunt) × (r .answer ≡ Answer.Refused number 0) ⌝ }
-{
-    Stepped {
-        rec: go_to(rec, Phase::Hunt),
-        answer: Answer::Refused(number, 0),
     }
 }
 

@@ -4,7 +4,7 @@ ghost use mathlib.Core.Bool.{false, cond};
 ghost use lib.Dec.{eqb};
 ghost use lib.ListN.{length};
 ghost use Rattle.strip.specs.Packets.{fitting, add16};
-ghost use Rattle.strip.specs.Step.{noted, at, afterByte, withByte, bodied, leaves, taken, unusable, Steps};
+ghost use Rattle.strip.specs.Step.{noted, afterByte, withByte, bodied, leaves, taken, unusable, Steps};
 ghost use Rattle.strip_step.specs.Heads.{Heads};
 use strip::Answer;
 use strip::Phase;
@@ -13,6 +13,7 @@ use strip::Stepped;
 use strip::go_to;
 use strip::is_unusable;
 use strip::number_of;
+use strip::refuse_with;
 
 // Whether indicator and length fit the command.
 fn fits(command: u8, indicator: u8, size: u16) -> bool
@@ -161,16 +162,6 @@ fn after_header(size: u16) -> Phase
         return Phase::SumLow;
     }
     Phase::Body
-}
-
-// A refusal: the search for a mark begins at the next byte.
-fn refuse_with(rec: Receiver, number: u8) -> Stepped
-    ensures { λ r. ⌜ (r .rec ≡ at rec Phase.Hunt) × (r .answer ≡ Answer.Refused number 0) ⌝ }
-{
-    Stepped {
-        rec: go_to(rec, Phase::Hunt),
-        answer: Answer::Refused(number, 0),
-    }
 }
 
 // The header's last byte.
