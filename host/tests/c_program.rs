@@ -1,8 +1,11 @@
 //! The header and the archive in the hands of a C compiler: two C programs that call every entry, the
 //! header as C++, and the names that the archive brings into a program.
 
+mod common;
+
+use common::command::run;
 use std::path::{Path, PathBuf};
-use std::process::{Command, Output};
+use std::process::Command;
 
 /// What tests/c/draw_band.c prints. Rows, dots and bytes of the two bands are those of the listing
 /// in the requirements; the bytes EE beyond the rows stay, and all of them where the band is
@@ -94,20 +97,6 @@ const ARCHIVE: &str = "../target/staticlib/libprintbox.a";
 
 fn in_host(path: &str) -> PathBuf {
     Path::new(env!("CARGO_MANIFEST_DIR")).join(path)
-}
-
-fn run(command: &mut Command) -> Output {
-    let output = match command.output() {
-        Ok(output) => output,
-        Err(error) => panic!("{command:?} cannot be run: {error}"),
-    };
-    assert!(
-        output.status.success(),
-        "{command:?} failed, {}:\n{}",
-        output.status,
-        String::from_utf8_lossy(&output.stderr)
-    );
-    output
 }
 
 /// Compiles a program of tests/c, runs it, and holds what it prints against what it should.

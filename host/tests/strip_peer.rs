@@ -10,11 +10,14 @@
 //!   Initialize clears 08 and 04. (`GBPrinterDonePrinting`, which is not called here, would clear
 //!   06.) The host of the library's receiver sets the status by the same rule here.
 
+mod common;
+
+use common::command::run;
 use generate::Rng;
 use printbox::strip::{Event, Print, Receiver, ROW_BYTES};
 use std::fs::{self, File};
 use std::path::{Path, PathBuf};
-use std::process::{Command, Output};
+use std::process::Command;
 use std::sync::OnceLock;
 
 const SEED: u64 = 20_260_301;
@@ -151,20 +154,6 @@ fn received(stream: &[u8]) -> Outcome {
 
 fn in_target(name: &str) -> PathBuf {
     Path::new(env!("CARGO_TARGET_TMPDIR")).join(name)
-}
-
-fn run(command: &mut Command) -> Output {
-    let output = match command.output() {
-        Ok(output) => output,
-        Err(error) => panic!("{command:?} cannot be run: {error}"),
-    };
-    assert!(
-        output.status.success(),
-        "{command:?} failed, {}:\n{}",
-        output.status,
-        String::from_utf8_lossy(&output.stderr)
-    );
-    output
 }
 
 /// The program over mGBA's printer, or None where mGBA is not installed.

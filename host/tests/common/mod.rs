@@ -4,6 +4,7 @@
 
 pub mod calls;
 pub mod cases;
+pub mod command;
 pub mod fenced;
 pub mod fields;
 pub mod guarded;
