@@ -53,7 +53,7 @@ pub const fn row_bytes(width: usize) -> usize {
 /// dot, and the six bytes of a block's head for each 255 of them, rounded up.
 ///
 /// That it is enough for every row which the writer takes is proved, as `RoomForRow` in
-/// crates/gdi/specs/Room.antt. A row of dots that are black and white in turn needs all of it.
+/// crates/gdi_jobs/specs/Room.antt. A row of dots that are black and white in turn needs all of it.
 ///
 /// ```
 /// # use printbox::gdi;
@@ -118,7 +118,7 @@ pub fn check(job: &[u8]) -> Result<usize, Refusal> {
 /// It goes by the place alone: heads are not looked at, and lines are not counted. On a job that the
 /// check passes, start after a page head with `left` 0 and go on at each place that was answered,
 /// with the head's width: as many lines are read as its height says, then the page end, and none is
-/// refused. That is proved, as `ReadThrough` in crates/gdi/specs/ReadingThrough.antt.
+/// refused. That is proved, as `ReadThrough` in crates/gdi_jobs/specs/ReadingThrough.antt.
 ///
 /// # Errors
 ///

@@ -9,7 +9,7 @@ use common::header::{refusals, HEADER};
 
 const PROVED: &str = include_str!("../../crates/printbox/src/lib.rt");
 const PROVED_STRUCTS: &str = include_str!("../../crates/strip_numbers/src/lib.rt");
-const PROVED_REFUSALS: &str = include_str!("../../crates/refusals/specs/Refusals.antt");
+const PROVED_REFUSALS: &str = include_str!("../../crates/printbox_refusals/specs/Refusals.antt");
 const RUST: &str = include_str!("../src/ffi.rs");
 
 /// The entries that refuse nothing: the header names no refusals for them.

@@ -7,12 +7,12 @@ use native.Mathlib.Omega.{arith}
 use borrow.Author.Tests.{lt-ltb, le-ltb, leb-false, eqb-false}
 use lib.Dec.{eqb, leb, ltb}
 use lib.ListN.{length}
-use Rattle.gdi.specs.Commands.{Command, dotsOf}
-use Rattle.gdi.specs.Groups.{Group, cut, pageHead, wrongPageHead, block, pageEnd, documentEnd, unknown, group}
-use Rattle.gdi.specs.Pages.{Next, toBlock, toEnd, toCommand, fault, next}
-use Rattle.gdi.specs.Jobs.{State, between, inPage, onward, done, stop, stepBetween, withSum, stepInPage, step}
-use Rattle.gdi.proofs.Groups.{never, group-head}
-use Rattle.gdi.proofs.Pages.{next-full}
+use Rattle.gdi_jobs.specs.Commands.{Command, dotsOf}
+use Rattle.gdi_jobs.specs.Groups.{Group, cut, pageHead, wrongPageHead, block, pageEnd, documentEnd, unknown, group}
+use Rattle.gdi_jobs.specs.Pages.{Next, toBlock, toEnd, toCommand, fault, next}
+use Rattle.gdi_jobs.specs.Jobs.{State, between, inPage, onward, done, stop, stepBetween, withSum, stepInPage, step}
+use Rattle.gdi_jobs.proofs.Groups.{never, group-head}
+use Rattle.gdi_jobs.proofs.Pages.{next-full}
 use Rattle.gdi_check.specs.Functions.{Bounded}
 
 -- ---- by what stands there

@@ -5,8 +5,8 @@ use Prim.Native.Nat.{ℕ, _+_, _≤_}
 use native.Mathlib.Omega.{arith}
 use lib.ListN.{length, drop, length-drop, drop-of-length-le}
 use lib.Seq.{drop-drop}
-use Rattle.gdi.specs.Jobs.{State, between, onward, done, stop, step, JobAnswer, pages, refused, walk}
-use Rattle.gdi.proofs.Jobs.{step-onward, step-stop, walk-onward, walk-done, walk-stop}
+use Rattle.gdi_jobs.specs.Jobs.{State, between, onward, done, stop, step, JobAnswer, pages, refused, walk}
+use Rattle.gdi_jobs.proofs.Jobs.{step-onward, step-stop, walk-onward, walk-done, walk-stop}
 use Rattle.gdi_check.specs.Functions.{Bounded}
 use Rattle.gdi_check.proofs.Steps.{bounded-onward}
 

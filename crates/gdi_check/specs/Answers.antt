@@ -1,5 +1,5 @@
 -- What the answers of the code say.
-use Rattle.gdi.specs.Jobs.{State, between, inPage, Step, onward, done, stop, JobAnswer, pages, refused}
+use Rattle.gdi_jobs.specs.Jobs.{State, between, inPage, Step, onward, done, stop, JobAnswer, pages, refused}
 use Rattle.gdi_check.specs.declared.State as code-state
 use Rattle.gdi_check.specs.declared.State.the-variants.{Between, InPage}
 use Rattle.gdi_check.specs.declared.Step as code-step

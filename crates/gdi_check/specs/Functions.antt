@@ -1,6 +1,6 @@
 -- What the private functions go by.
 use Prim.Native.Nat.{ℕ, _<_, _≤_}
-use Rattle.gdi.specs.Jobs.{State, between, inPage}
+use Rattle.gdi_jobs.specs.Jobs.{State, between, inPage}
 
 -- at place `at` a state's numbers are in their bounds: there are no more pages than bytes, no more lines than the page has, and a line that is not
 -- whole is narrower than the page

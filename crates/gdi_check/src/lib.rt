@@ -2,15 +2,15 @@
 ghost use mathlib.Core.Path.{_≡_};
 ghost use Prim.Native.Nat.{_+_, _<_, _≤_};
 ghost use lib.ListN.{length, drop};
-ghost use Rattle.gdi.specs.Jobs.{between, inPage, withSum, step, walk, jobAnswer, longest};
+ghost use Rattle.gdi_jobs.specs.Jobs.{between, inPage, withSum, step, walk, jobAnswer, longest};
 ghost use Rattle.gdi_check.specs.Answers.{told, stateOf, stepOf};
 ghost use Rattle.gdi_check.specs.Functions.{Bounded};
-use gdi::HEAD;
-use gdi::LONGEST;
-use gdi_next::Group;
-use gdi_next::Next;
-use gdi_next::group_at;
-use gdi_next::next_at;
+use gdi_jobs::HEAD;
+use gdi_jobs::LONGEST;
+use gdi_parse::Group;
+use gdi_parse::Next;
+use gdi_parse::group_at;
+use gdi_parse::next_at;
 
 // The number of pages, or a refusal's number and place.
 pub enum Checked {

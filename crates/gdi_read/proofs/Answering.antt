@@ -12,14 +12,14 @@ use types.Run.{OneOf, miss}
 use denote.Enum.Declared.{tagOf}
 use Rattle.row.specs.Dots.{dotAt, rowOf}
 use Rattle.row.specs.Stretches.{filled}
-use Rattle.row.proofs.Tests.{is-false}
+use Rattle.truth.proofs.Tests.{is-false}
 use Rattle.row.proofs.Dots.{rowOf-same}
 use Rattle.row.proofs.Stretches.{filled-in, filled-before}
-use Rattle.gdi.specs.Commands.{Command}
-use Rattle.gdi.specs.Groups.{admitted}
-use Rattle.gdi.specs.Jobs.{longest}
-use Rattle.gdi.specs.Lines.{Line, line, pageEnd, refused, lineDot, rowLength, lineRow, lineAt, rowAfter, LineAnswer, nextLine, refusal, answerOf}
-use Rattle.gdi.proofs.Groups.{never, admitted-is}
+use Rattle.gdi_jobs.specs.Commands.{Command}
+use Rattle.gdi_jobs.specs.Groups.{admitted}
+use Rattle.gdi_jobs.specs.Jobs.{longest}
+use Rattle.gdi_jobs.specs.Lines.{Line, line, pageEnd, refused, lineDot, rowLength, lineRow, lineAt, rowAfter, LineAnswer, nextLine, refusal, answerOf}
+use Rattle.gdi_jobs.proofs.Groups.{never, admitted-is}
 use Rattle.gdi_read.specs.Answers.{told}
 use Rattle.gdi_read.specs.declared.LineRead as code
 use Rattle.gdi_read.specs.declared.LineRead.the-variants as variants

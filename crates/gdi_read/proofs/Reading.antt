@@ -13,15 +13,15 @@ use Rattle.row.specs.Dots.{dotAt, rowOf}
 use Rattle.row.specs.Stretches.{filled}
 use Rattle.row.proofs.Dots.{Bytes, bytes-drop, length-rowOf, dot-rowOf}
 use Rattle.row.proofs.Stretches.{filled-in, filled-before}
-use Rattle.gdi.specs.Commands.{Command, run}
-use Rattle.gdi.specs.Pages.{toCommand, next}
-use Rattle.gdi.specs.Lines.{Line, line, pageEnd, refused, lineDot, withCommand, lineFrom, nextLine, afterPage, refusal, answerOf}
-use Rattle.gdi_next.specs.Answers.{nextOf}
-use Rattle.gdi_next.specs.declared.Next as code
-use Rattle.gdi_next.specs.declared.Next.the-variants.{ToBlock, ToEnd, ToCommand, Fault}
-use Rattle.gdi.proofs.Groups.{never}
-use Rattle.gdi.proofs.Pages.{next-block, next-end, next-command, next-command-dots, next-fault}
-use Rattle.gdi.proofs.Lines.{line-block, line-end, line-last, line-command, line-fault}
+use Rattle.gdi_jobs.specs.Commands.{Command, run}
+use Rattle.gdi_jobs.specs.Pages.{toCommand, next}
+use Rattle.gdi_jobs.specs.Lines.{Line, line, pageEnd, refused, lineDot, withCommand, lineFrom, nextLine, afterPage, refusal, answerOf}
+use Rattle.gdi_parse.specs.Answers.{nextOf}
+use Rattle.gdi_parse.specs.declared.Next as code
+use Rattle.gdi_parse.specs.declared.Next.the-variants.{ToBlock, ToEnd, ToCommand, Fault}
+use Rattle.gdi_jobs.proofs.Groups.{never}
+use Rattle.gdi_jobs.proofs.Pages.{next-block, next-end, next-command, next-command-dots, next-fault}
+use Rattle.gdi_jobs.proofs.Lines.{line-block, line-end, line-last, line-command, line-fault}
 use Rattle.gdi_read.specs.Functions.{put, Passed}
 
 -- ---- a stretch put

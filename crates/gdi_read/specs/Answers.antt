@@ -1,5 +1,5 @@
 -- What the answer of the code says.
-use Rattle.gdi.specs.Lines.{LineAnswer, nextLine, afterPage, refusal}
+use Rattle.gdi_jobs.specs.Lines.{LineAnswer, nextLine, afterPage, refusal}
 use Rattle.gdi_read.specs.declared.LineRead as code
 use Rattle.gdi_read.specs.declared.LineRead.the-variants.{Line, PageEnd, Refused}
 

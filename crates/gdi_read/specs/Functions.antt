@@ -6,8 +6,8 @@ use Prim.Native.Nat.{ℕ, _<_}
 use lib.ListN.{length}
 use Rattle.row.specs.Dots.{dotAt, rowOf}
 use Rattle.row.specs.Stretches.{filled}
-use Rattle.gdi.specs.Commands.{Command}
-use Rattle.gdi.specs.Lines.{Line, line, lineDot, LineAnswer, answerOf}
+use Rattle.gdi_jobs.specs.Commands.{Command}
+use Rattle.gdi_jobs.specs.Lines.{Line, line, lineDot, LineAnswer, answerOf}
 
 -- a row with the dots from `from` up to, not including, `to` filled where it is to be written
 unfoldable pub put : (write : Bool) (from to : ℕ) (black : Bool) → List ℕ → List ℕ

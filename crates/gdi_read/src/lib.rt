@@ -3,13 +3,13 @@ ghost use mathlib.Core.Path.{_≡_};
 ghost use mathlib.Core.Bool.{false};
 ghost use Prim.Native.Nat.{_*_, _≤_};
 ghost use lib.ListN.{length, drop};
-ghost use Rattle.gdi.specs.Lines.{lineFrom, lineAt, rowAfter, answerOf};
+ghost use Rattle.gdi_jobs.specs.Lines.{lineFrom, lineAt, rowAfter, answerOf};
 ghost use Rattle.gdi_read.specs.Answers.{told};
 ghost use Rattle.gdi_read.specs.Functions.{put, Passed};
-use gdi::LONGEST;
-use gdi::WIDEST;
-use gdi_next::Next;
-use gdi_next::next_at;
+use gdi_jobs::LONGEST;
+use gdi_jobs::WIDEST;
+use gdi_parse::Next;
+use gdi_parse::next_at;
 use row::fill;
 
 // The next place after a line, or after the page end that stands where the line would start; or a refusal's number and place.

@@ -6,10 +6,10 @@ use Prim.Native.Nat.{ℕ, _+_, _/_, _<_, _≤_}
 use borrow.Author.Tests.{eq-eqb, ne-eqb, lt-ltb, le-ltb}
 use lib.ListN.{length}
 use Rattle.row.specs.Spare.{spareClear}
-use Rattle.gdi.specs.Lines.{rowLength}
-use Rattle.gdi.specs.Rows.{runs, longestRun, rowBytes}
-use Rattle.gdi.specs.Writers.{refuses, put, rowWriting}
-use Rattle.gdi.proofs.Groups.{admitted-is}
+use Rattle.gdi_jobs.specs.Lines.{rowLength}
+use Rattle.gdi_jobs.specs.Rows.{runs, longestRun, rowBytes}
+use Rattle.gdi_jobs.specs.Writers.{refuses, put, rowWriting}
+use Rattle.gdi_jobs.proofs.Groups.{admitted-is}
 use Rattle.gdi_write.proofs.Writers.{admitted-no}
 
 module _ (width : ℕ) (row : List ℕ) (room : ℕ) where

@@ -13,9 +13,9 @@ use Rattle.row.specs.Dots.{dotAt, bit}
 use Rattle.row.specs.Runs.{runEnd}
 use Rattle.row.specs.Counts.{joined}
 use Rattle.row.proofs.Runs.{run-end-le, run-end-past}
-use Rattle.gdi.specs.Commands.{Command, run}
-use Rattle.gdi.specs.Rows.{runsFrom, runs, longestRun, commandBytes, blocks, blockBytes, rowBytes}
-use Rattle.gdi.proofs.Rows.{runs-first, runs-none}
+use Rattle.gdi_jobs.specs.Commands.{Command, run}
+use Rattle.gdi_jobs.specs.Rows.{runsFrom, runs, longestRun, commandBytes, blocks, blockBytes, rowBytes}
+use Rattle.gdi_jobs.proofs.Rows.{runs-first, runs-none}
 use Rattle.gdi_rows.specs.Places.{putAt}
 use Rattle.gdi_rows.proofs.Places.{Held, held-none, held-as, held-more, held-over, held-self, held-before}
 

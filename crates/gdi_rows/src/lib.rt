@@ -6,12 +6,12 @@ ghost use Prim.Native.Nat.{_+_, _*_, _≤_, max};
 ghost use lib.Dec.{leb};
 ghost use lib.ListN.{length, drop};
 ghost use Rattle.row.specs.Dots.{bit};
-ghost use Rattle.gdi.specs.Commands.{run};
-ghost use Rattle.gdi.specs.Rows.{runs, longestRun, commandBytes, rowBytes};
-ghost use Rattle.gdi.specs.Writers.{rowWriting, answerOf, outputAfter};
+ghost use Rattle.gdi_jobs.specs.Commands.{run};
+ghost use Rattle.gdi_jobs.specs.Rows.{runs, longestRun, commandBytes, rowBytes};
+ghost use Rattle.gdi_jobs.specs.Writers.{rowWriting, answerOf, outputAfter};
 ghost use Rattle.gdi_write.specs.Answers.{told};
 ghost use Rattle.gdi_rows.specs.Places.{putAt};
-use gdi::WIDEST;
+use gdi_jobs::WIDEST;
 use gdi_write::Written;
 
 // Puts the bytes at place `at` of the output, where it has room for them.

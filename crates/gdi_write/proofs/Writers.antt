@@ -5,10 +5,10 @@ use mathlib.Core.List.{List, _++_}
 use Prim.Native.Nat.{ℕ, _<_, _≤_}
 use borrow.Author.Tests.{le-leb, lt-leb}
 use lib.ListN.{length, drop}
-use Rattle.row.proofs.Tests.{is-false}
-use Rattle.gdi.specs.Groups.{admitted, fields}
-use Rattle.gdi.specs.Writers.{Writing, writes, refuses, put, PageHead, pageHeadBytes, pageHeadWriting, WriteAnswer, wrote, refused, answerOf, outputAfter, linefillOf}
-use Rattle.gdi.proofs.Groups.{admitted-is}
+use Rattle.truth.proofs.Tests.{is-false}
+use Rattle.gdi_jobs.specs.Groups.{admitted, fields}
+use Rattle.gdi_jobs.specs.Writers.{Writing, writes, refuses, put, PageHead, pageHeadBytes, pageHeadWriting, WriteAnswer, wrote, refused, answerOf, outputAfter, linefillOf}
+use Rattle.gdi_jobs.proofs.Groups.{admitted-is}
 use Rattle.gdi_write.specs.Paper.{command, fillAnswer}
 use Rattle.gdi_write.specs.Paper as paper
 

@@ -1,5 +1,5 @@
 -- What the answers of the code say.
-use Rattle.gdi.specs.Writers as writers
+use Rattle.gdi_jobs.specs.Writers as writers
 use Rattle.gdi_write.specs.Paper as paper
 use Rattle.gdi_write.specs.declared.Written as code-written
 use Rattle.gdi_write.specs.declared.Written.the-variants.{Bytes, Refused}

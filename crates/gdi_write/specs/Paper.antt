@@ -2,8 +2,8 @@
 use mathlib.Core.Path.{_≡_}
 use mathlib.Core.Bool.{cond}
 use Prim.Native.Nat.{ℕ}
-use Rattle.gdi.specs.Groups.{admitted}
-use Rattle.gdi.specs.Writers.{linefillOf}
+use Rattle.gdi_jobs.specs.Groups.{admitted}
+use Rattle.gdi_jobs.specs.Writers.{linefillOf}
 use Rattle.gdi_write.specs.declared.Paper.{Paper}
 
 -- ---- the formats, in dots, with the format's number

@@ -3,10 +3,10 @@
 // stays whole.
 ghost use mathlib.Core.Path.{_≡_};
 ghost use lib.ListN.{length};
-ghost use Rattle.gdi.specs.Writers.{put, headWriting, pageEndWriting, documentEndWriting, pageHeadWriting, answerOf, outputAfter};
+ghost use Rattle.gdi_jobs.specs.Writers.{put, headWriting, pageEndWriting, documentEndWriting, pageHeadWriting, answerOf, outputAfter};
 ghost use Rattle.gdi_write.specs.Paper.{a4, a5, letter, monarch, fillAnswer};
 ghost use Rattle.gdi_write.specs.Answers.{told, filled};
-use gdi::WIDEST;
+use gdi_jobs::WIDEST;
 
 // The number of bytes that were written, or a refusal's number and place.
 pub enum Written {
@@ -86,7 +86,7 @@ pub fn write_head(output: &mut [u8]) -> Written
     ensures { λ r. ⌜ told r ≡ answerOf (headWriting (length (now (output .entry)))) ⌝ }
     ensures { λ _. ⌜ now (output .exit) ≡ outputAfter (headWriting (length (now (output .entry)))) (now (output .entry)) ⌝ }
 {
-    put_all(&gdi::HEAD, output)
+    put_all(&gdi_jobs::HEAD, output)
 }
 
 // The end of a page.
@@ -123,7 +123,7 @@ pub fn write_page_head(
         (record { tray = tray; width = width; height = height; format = format; paperType = «paper_type»; copies = copies; toner = toner })
         (length (now (output .entry)))) (now (output .entry)) ⌝ }
 {
-    if !gdi_next::may_hold(width as usize, height as usize, toner) {
+    if !gdi_parse::may_hold(width as usize, height as usize, toner) {
         return Written::Refused(22, 0);
     }
     let bytes = [

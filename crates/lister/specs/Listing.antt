@@ -5,13 +5,13 @@ use mathlib.Core.List.{List, [], _∷_}
 use Prim.Native.Nat.{ℕ}
 use lib.Dec.{ltb}
 use lib.ListN.{length}
-use Rattle.words.specs.Words.{words, bytesOf}
-use Rattle.words.specs.Load.{loadCount, loadWords}
-use Rattle.commands.specs.Band.{readFrom, readBand}
-use Rattle.herald.specs.Herald.{bandCount}
-use Rattle.herald.specs.Refusals.{first, lengthTable, passwordTable, sizeTable, loadTable, pageTable, frontTable, front}
-use Rattle.sheet.specs.Layout.{bandsThen, pagesFrom}
-use Rattle.sheet.specs.Check.{CheckAnswer, pages, refused, checkLayout, checkAnswer}
+use Rattle.film_words.specs.Words.{words, bytesOf}
+use Rattle.film_words.specs.Load.{loadCount, loadWords}
+use Rattle.film_commands.specs.Band.{readFrom, readBand}
+use Rattle.film_herald.specs.Herald.{bandCount}
+use Rattle.film_herald.specs.Refusals.{first, lengthTable, passwordTable, sizeTable, loadTable, pageTable, frontTable, front}
+use Rattle.film_check.specs.Layout.{bandsThen, pagesFrom}
+use Rattle.film_check.specs.Check.{CheckAnswer, pages, refused, checkLayout, checkAnswer}
 
 -- an empty load: the count 0 alone
 abbrev pub emptyLoad : List ℕ

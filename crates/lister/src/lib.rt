@@ -1,18 +1,18 @@
 // Listings: what the check answers for a sheet with an empty load, then each band of each page as it is drawn.
 ghost use mathlib.Core.Path.{_≡_};
-ghost use Rattle.sheet.specs.Answers.{answered};
+ghost use Rattle.film_check.specs.Answers.{answered};
 ghost use Rattle.lister.specs.Listing.{listAnswer};
-use demand::Drawn;
-use film::draw;
-use herald::bands_per_page;
-use herald::row_bytes;
-use sheet::Checked;
-use sheet::check;
+use film_check::Checked;
+use film_check::check;
+use film_draw::draw;
+use film_drawing::Drawn;
+use film_herald::bands_per_page;
+use film_herald::row_bytes;
+use film_words::word;
 use text::band_line;
 use text::pages_line;
 use text::refusal_line;
 use text::row_line;
-use words::word;
 
 // The most bytes that are listed.
 const LONGEST: usize = 65536;

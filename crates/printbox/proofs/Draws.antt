@@ -3,11 +3,11 @@ use mathlib.Core.Path.{_≡_, refl, sym}
 use mathlib.Core.List.{List}
 use Prim.Native.Nat.{ℕ}
 use lib.ListN.{length}
-use Rattle.demand.specs.Draw.{DrawAnswer, drawn, refused, drawAnswer, bufferAfter}
-use Rattle.demand.specs.Promise.{due, told, Promised}
-use Rattle.demand.specs.declared.Drawn.{Drawn}
-use Rattle.demand.specs.declared.Drawn.the-variants.{Done, Refused}
-use Rattle.numbers.specs.Numbers.{ofDraw}
+use Rattle.film_drawing.specs.Draw.{DrawAnswer, drawn, refused, drawAnswer, bufferAfter}
+use Rattle.film_drawing.specs.Promise.{due, told, Promised}
+use Rattle.film_drawing.specs.declared.Drawn.{Drawn}
+use Rattle.film_drawing.specs.declared.Drawn.the-variants.{Done, Refused}
+use Rattle.printbox_answers.specs.Numbers.{ofDraw}
 use Rattle.printbox.specs.Draws.{KeepsPromise}
 
 -- the code's answer for the answer that is due

@@ -3,26 +3,26 @@
 // place. Those of the strip printer go by a record and an answer of numbers.
 ghost use mathlib.Core.Path.{_≡_};
 ghost use lib.ListN.{length};
-ghost use Rattle.sheet.specs.Check.{checkAnswer};
-ghost use Rattle.demand.specs.Draw.{drawAnswer, bufferAfter};
-ghost use Rattle.demand.specs.Promise as draw;
-ghost use Rattle.gdi.specs.Jobs.{jobAnswer};
-ghost use Rattle.gdi.specs.Lines as lines;
-ghost use Rattle.gdi.specs.Writers.{headWriting, pageEndWriting, documentEndWriting, pageHeadWriting, rowWriting, answerOf, outputAfter};
+ghost use Rattle.film_check.specs.Check.{checkAnswer};
+ghost use Rattle.film_drawing.specs.Draw.{drawAnswer, bufferAfter};
+ghost use Rattle.film_drawing.specs.Promise as draw;
+ghost use Rattle.gdi_jobs.specs.Jobs.{jobAnswer};
+ghost use Rattle.gdi_jobs.specs.Lines as lines;
+ghost use Rattle.gdi_jobs.specs.Writers.{headWriting, pageEndWriting, documentEndWriting, pageHeadWriting, rowWriting, answerOf, outputAfter};
 ghost use Rattle.gdi_write.specs.Paper.{fillAnswer};
 ghost use Rattle.gdi_write.specs.Answers as write;
-ghost use Rattle.numbers.specs.Numbers.{ofCheck, ofDraw, ofJob, ofLine, ofWriting, ofFill};
+ghost use Rattle.printbox_answers.specs.Numbers.{ofCheck, ofDraw, ofJob, ofLine, ofWriting, ofFill};
 ghost use Rattle.strip.specs.Step.{newRecord};
 ghost use Rattle.strip_numbers.specs.Numbers.{recordOf, recordWithStatus, NumberSteps};
-use gdi::WIDEST;
+use gdi_jobs::WIDEST;
 use gdi_write::Filled;
 use gdi_write::Paper;
-use numbers::of_check;
-use numbers::of_draw;
-use numbers::of_fill;
-use numbers::of_job;
-use numbers::of_line;
-use numbers::of_writing;
+use printbox_answers::of_check;
+use printbox_answers::of_draw;
+use printbox_answers::of_fill;
+use printbox_answers::of_job;
+use printbox_answers::of_line;
+use printbox_answers::of_writing;
 use strip_numbers::StripAnswer;
 use strip_numbers::StripRecord;
 
@@ -31,10 +31,10 @@ use strip_numbers::StripRecord;
 pub extern "C" fn film_check(sheet: &[u8], load: &[u8], answer: &mut [u64; 3])
     ensures { λ _. ⌜ now (answer .exit) ≡ ofCheck (checkAnswer (now (sheet .entry)) (now (load .entry))) ⌝ }
 {
-    *answer = of_check(sheet::check(sheet, load));
+    *answer = of_check(film_check::check(sheet, load));
 }
 
-// Draws band `band` of page `page` into the buffer, as film::draw. Done: rows, dots.
+// Draws band `band` of page `page` into the buffer, as film_draw::draw. Done: rows, dots.
 #[no_mangle]
 pub extern "C" fn film_draw<'a>(
     sheet: &'a [u8],
@@ -47,7 +47,7 @@ pub extern "C" fn film_draw<'a>(
     ensures { λ _. ⌜ now (answer .exit) ≡ ofDraw (draw.due (drawAnswer (now (sheet .entry)) (now (load .entry)) page band (length (now (buffer .entry))))) ⌝ }
     ensures { λ _. ⌜ now (buffer .exit) ≡ bufferAfter (drawAnswer (now (sheet .entry)) (now (load .entry)) page band (length (now (buffer .entry)))) (now (buffer .entry)) ⌝ }
 {
-    *answer = of_draw(film::draw(sheet, load, page, band, buffer));
+    *answer = of_draw(film_draw::draw(sheet, load, page, band, buffer));
 }
 
 // Checks a job. Done: pages, 0.

@@ -216,10 +216,10 @@ fn stored_listings() {
     let crates = Path::new(env!("CARGO_MANIFEST_DIR")).join("../../crates");
     for (name, status) in [
         ("listing", 0),
-        ("listing_masks", 0),
-        ("listing_longest", 0),
-        ("listing_refused", 1),
-        ("listing_empty", 1),
+        ("test_listing_masks", 0),
+        ("test_listing_longest", 0),
+        ("test_listing_refused", 1),
+        ("test_listing_empty", 1),
     ] {
         let input = text(&crates.join(name).join("stdin"));
         let stored = fs::read_to_string(crates.join(name).join("stdout")).expect("its output");

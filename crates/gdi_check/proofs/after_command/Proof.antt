@@ -3,7 +3,7 @@ use mathlib.Core.Path.{_≡_, refl, _∙_}
 use Prim.Native.Nat.{ℕ, _+_, _<_, _≤_}
 use native.Mathlib.Omega.{arith}
 use borrow.Author.Tests.{le-leb, lt-leb}
-use Rattle.gdi.specs.Jobs.{inPage, withSum}
+use Rattle.gdi_jobs.specs.Jobs.{inPage, withSum}
 use Rattle.gdi_check.proofs.after_command.Statement.{statement}
 use Rattle.gdi_check.proofs.after_command.Tie as tie
 

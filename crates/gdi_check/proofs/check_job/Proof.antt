@@ -5,9 +5,9 @@ use Prim.Native.Nat.{ℕ, _-_, _≤_}
 use native.Mathlib.Omega.{arith}
 use borrow.Author.Tests.{lt-ltb, le-ltb}
 use lib.ListN.{length, drop}
-use Rattle.gdi.specs.Groups.{codes, headBytes, group-cases}
-use Rattle.gdi.specs.Jobs.{longest, between, walk, walkHead, jobAnswer, too-long}
-use Rattle.gdi.proofs.Jobs.{head-done, head-ends, head-agrees, head-differs}
+use Rattle.gdi_jobs.specs.Groups.{codes, headBytes, group-cases}
+use Rattle.gdi_jobs.specs.Jobs.{longest, between, walk, walkHead, jobAnswer, too-long}
+use Rattle.gdi_jobs.proofs.Jobs.{head-done, head-ends, head-agrees, head-differs}
 use Rattle.gdi_check.proofs.check_job.Statement.{statement}
 use Rattle.gdi_check.proofs.check_job.Tie as tie
 

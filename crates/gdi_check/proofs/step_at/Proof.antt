@@ -2,7 +2,7 @@
 use mathlib.Core.Path.{sym, ap, subst, _∙_}
 use native.Mathlib.Omega.{arith}
 use lib.ListN.{drop}
-use Rattle.gdi.specs.Jobs.{State, step}
+use Rattle.gdi_jobs.specs.Jobs.{State, step}
 use Rattle.gdi_check.specs.Answers.{stateOf}
 use Rattle.gdi_check.specs.Functions.{Bounded}
 use Rattle.gdi_check.proofs.step_at.Statement.{statement}

@@ -6,11 +6,11 @@ use native.Mathlib.Omega.{arith}
 use lib.ListN.{length-drop}
 use types.Run.{OneOf, miss}
 use denote.Enum.Declared.{tagOf}
-use Rattle.gdi.specs.Jobs.{stop, stepBetween}
-use Rattle.gdi_next.specs.Answers.{groupOf}
-use Rattle.gdi_next.specs.declared.Group as code
-use Rattle.gdi_next.specs.declared.Group.the-variants.{Cut, PageHead, WrongPageHead, Block, PageEnd, DocumentEnd, Unknown}
-use Rattle.gdi_next.proofs.Group.{the-type}
+use Rattle.gdi_jobs.specs.Jobs.{stop, stepBetween}
+use Rattle.gdi_parse.specs.Answers.{groupOf}
+use Rattle.gdi_parse.specs.declared.Group as code
+use Rattle.gdi_parse.specs.declared.Group.the-variants.{Cut, PageHead, WrongPageHead, Block, PageEnd, DocumentEnd, Unknown}
+use Rattle.gdi_parse.proofs.Group.{the-type}
 use Rattle.gdi_check.proofs.Steps.{between-is, end-before, end-last}
 use Rattle.gdi_check.proofs.step_between.Statement.{statement}
 use Rattle.gdi_check.proofs.step_between.Tie as tie

@@ -4,11 +4,11 @@ use native.Mathlib.Omega.{arith}
 use lib.Dec.{eqb}
 use lib.ListN.{drop}
 use Rattle.row.proofs.Dots.{bytes-drop}
-use Rattle.gdi.specs.Commands.{run}
-use Rattle.gdi.specs.Pages.{toCommand, next}
-use Rattle.gdi.specs.Jobs.{State, onward}
-use Rattle.gdi_next.specs.Answers.{nextOf}
-use Rattle.gdi.proofs.Pages.{next-command, next-command-dots}
+use Rattle.gdi_jobs.specs.Commands.{run}
+use Rattle.gdi_jobs.specs.Pages.{toCommand, next}
+use Rattle.gdi_jobs.specs.Jobs.{State, onward}
+use Rattle.gdi_parse.specs.Answers.{nextOf}
+use Rattle.gdi_jobs.proofs.Pages.{next-command, next-command-dots}
 use Rattle.gdi_check.proofs.Steps.{in-page-is, not-full}
 use Rattle.gdi_check.proofs.step_in_page.Statement.{statement}
 use Rattle.gdi_check.proofs.step_in_page.Tie as tie

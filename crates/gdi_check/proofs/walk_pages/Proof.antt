@@ -4,7 +4,7 @@ use mathlib.Core.Path.{sym, ap, _∙_}
 use Prim.Native.Nat.{_+_, _-_, _≤_}
 use native.Mathlib.Omega.{arith}
 use lib.ListN.{length}
-use Rattle.gdi.specs.Jobs.{longest}
+use Rattle.gdi_jobs.specs.Jobs.{longest}
 use Rattle.gdi_check.specs.Answers.{stateOf, stepOf}
 use Rattle.gdi_check.proofs.Walk.{WalkedTo, walked-first, walked-on, walked-done, walked-stop, walked-end}
 use Rattle.gdi_check.proofs.walk_pages.Statement.{statement}

@@ -6,8 +6,8 @@ use native.Mathlib.Omega.{arith}
 use borrow.Author.Tests.{not-true, not-false}
 use lib.ListN.{length}
 use Rattle.row.specs.Spare.{spareClear}
-use Rattle.gdi.specs.Rows.{rowBytes}
-use Rattle.gdi.specs.Writers.{put, rowWriting}
+use Rattle.gdi_jobs.specs.Rows.{rowBytes}
+use Rattle.gdi_jobs.specs.Writers.{put, rowWriting}
 use Rattle.gdi_write.proofs.Writers.{refusing, writing, put-short, put-whole}
 use Rattle.gdi_rows.proofs.Refusals.{row-width, row-length, row-spare, row-long, row-put}
 use Rattle.gdi_rows.proofs.write_row.Statement.{statement}

@@ -1,6 +1,6 @@
 -- `gdi_write::write_document_end` meets its contract: its bytes are a document end. Assumes nothing.
 use mathlib.Core.Path.{refl}
-use Rattle.gdi.specs.Writers.{documentEndWriting}
+use Rattle.gdi_jobs.specs.Writers.{documentEndWriting}
 use Rattle.gdi_write.proofs.write_document_end.Statement.{statement}
 use Rattle.gdi_write.proofs.write_document_end.Tie as tie
 

@@ -1,7 +1,7 @@
 -- `gdi_write::write_head` meets its contract: the constant of `gdi` is the head. Assumes nothing.
 use mathlib.Core.Path.{refl}
-use Rattle.gdi.specs.Groups.{codes, headBytes}
-use Rattle.gdi.specs.Writers.{headWriting}
+use Rattle.gdi_jobs.specs.Groups.{codes, headBytes}
+use Rattle.gdi_jobs.specs.Writers.{headWriting}
 use Rattle.gdi_write.proofs.write_head.Statement.{statement}
 use Rattle.gdi_write.proofs.write_head.Tie as tie
 

@@ -1,6 +1,6 @@
 -- `gdi_write::write_page_end` meets its contract: its bytes are a page end. Assumes nothing.
 use mathlib.Core.Path.{refl}
-use Rattle.gdi.specs.Writers.{pageEndWriting}
+use Rattle.gdi_jobs.specs.Writers.{pageEndWriting}
 use Rattle.gdi_write.proofs.write_page_end.Statement.{statement}
 use Rattle.gdi_write.proofs.write_page_end.Tie as tie
 

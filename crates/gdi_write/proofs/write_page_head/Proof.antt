@@ -2,7 +2,7 @@
 use mathlib.Core.Path.{refl, sym, _∙_}
 use native.Mathlib.Omega.{arith}
 use borrow.Author.Tests.{not-true, not-false}
-use Rattle.gdi.specs.Writers.{pageHeadBytes}
+use Rattle.gdi_jobs.specs.Writers.{pageHeadBytes}
 use Rattle.gdi_write.proofs.Writers.{refusing, same-writing, page-refused, page-put}
 use Rattle.gdi_write.proofs.write_page_head.Statement.{statement}
 use Rattle.gdi_write.proofs.write_page_head.Tie as tie

@@ -5,8 +5,8 @@ use Prim.Native.Nat.{ℕ, _<_, _≤_}
 use native.Mathlib.Omega.{arith}
 use borrow.Author.Tests.{lt-ltb, le-ltb}
 use lib.ListN.{length}
-use Rattle.sheet.specs.Check.{refused, checkAnswer}
-use Rattle.sheet.specs.Answers.{answered}
+use Rattle.film_check.specs.Check.{refused, checkAnswer}
+use Rattle.film_check.specs.Answers.{answered}
 use Rattle.lister.specs.Listing.{emptyLoad, listAnswer}
 use Rattle.lister.proofs.list.Statement.{statement}
 use Rattle.lister.proofs.list.Tie as tie

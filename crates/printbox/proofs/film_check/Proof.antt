@@ -1,7 +1,7 @@
 -- `printbox::film_check` meets its contract. Assumes nothing.
 use mathlib.Core.Path.{ap, _∙_}
 use borrow.Author.Needs.{needs}
-use Rattle.numbers.specs.Numbers.{ofCheck}
+use Rattle.printbox_answers.specs.Numbers.{ofCheck}
 use Rattle.printbox.proofs.film_check.Statement.{statement}
 use Rattle.printbox.proofs.film_check.Tie as tie
 

@@ -1,7 +1,7 @@
 -- `printbox::film_draw` meets its contract. Assumes nothing.
 use mathlib.Core.Path.{ap, _∙_}
 use borrow.Author.Needs.{needs}
-use Rattle.numbers.specs.Numbers.{ofDraw}
+use Rattle.printbox_answers.specs.Numbers.{ofDraw}
 use Rattle.printbox.proofs.film_draw.Statement.{statement}
 use Rattle.printbox.proofs.film_draw.Tie as tie
 

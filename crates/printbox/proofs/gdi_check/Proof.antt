@@ -1,7 +1,7 @@
 -- `printbox::gdi_check` meets its contract. Assumes nothing.
 use mathlib.Core.Path.{ap, _∙_}
 use borrow.Author.Needs.{needs}
-use Rattle.numbers.specs.Numbers.{ofJob}
+use Rattle.printbox_answers.specs.Numbers.{ofJob}
 use Rattle.printbox.proofs.gdi_check.Statement.{statement}
 use Rattle.printbox.proofs.gdi_check.Tie as tie
 

@@ -1,7 +1,7 @@
 -- `printbox::gdi_linefill` meets its contract. Assumes nothing.
 use mathlib.Core.Path.{ap, _∙_}
 use borrow.Author.Needs.{needs}
-use Rattle.numbers.specs.Numbers.{ofFill}
+use Rattle.printbox_answers.specs.Numbers.{ofFill}
 use Rattle.printbox.proofs.gdi_linefill.Statement.{statement}
 use Rattle.printbox.proofs.gdi_linefill.Tie as tie
 

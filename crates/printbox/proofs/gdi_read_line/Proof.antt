@@ -1,7 +1,7 @@
 -- `printbox::gdi_read_line` meets its contract. Assumes nothing.
 use mathlib.Core.Path.{ap, _∙_}
 use borrow.Author.Needs.{needs}
-use Rattle.numbers.specs.Numbers.{ofLine}
+use Rattle.printbox_answers.specs.Numbers.{ofLine}
 use Rattle.printbox.proofs.gdi_read_line.Statement.{statement}
 use Rattle.printbox.proofs.gdi_read_line.Tie as tie
 

@@ -1,7 +1,7 @@
 -- `printbox::gdi_write_head` meets its contract. Assumes nothing.
 use mathlib.Core.Path.{ap, _∙_}
 use borrow.Author.Needs.{needs}
-use Rattle.numbers.specs.Numbers.{ofWriting}
+use Rattle.printbox_answers.specs.Numbers.{ofWriting}
 use Rattle.printbox.proofs.gdi_write_head.Statement.{statement}
 use Rattle.printbox.proofs.gdi_write_head.Tie as tie
 

@@ -1,7 +1,7 @@
 -- `gdi_write::Paper::linefill` meets its contract, and each constant is its format. Assumes nothing.
 use mathlib.Core.Path.{refl}
 use native.Mathlib.Omega.{arith}
-use Rattle.gdi.specs.Writers.{linefillOf}
+use Rattle.gdi_jobs.specs.Writers.{linefillOf}
 use Rattle.gdi_write.proofs.Writers.{admitted-no, fill-refused, fill-given}
 use Rattle.gdi_write.proofs.Paper.linefill.Statement.{statement}
 use Rattle.gdi_write.proofs.Paper.linefill.Tie as tie

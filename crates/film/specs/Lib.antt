@@ -1,2 +1,0 @@
--- What draw's private functions need and answer. What draw itself promises is in crates/demand/specs.
-pub mod Functions

@@ -1,0 +1,88 @@
+-- What the check answers, for every two byte strings offered as sheet and load.
+use mathlib.Core.Path.{_≡_}
+use mathlib.Core.List.{List, [], _∷_, _++_}
+use Prim.Native.Nat.{ℕ, _+_}
+use Rattle.film_words.specs.Words.{words, bytesOf}
+use Rattle.film_words.specs.Parts.{partOf}
+use Rattle.film_words.specs.Load.{loadCount, loadWords}
+use Rattle.film_words.specs.Arrays.{arrayExtent}
+use Rattle.film_words.specs.Groups.{linesExtent, groupExtent}
+use Rattle.film_commands.specs.Commands.{command, priorityFrom, tileFrom, rectangleFrom, trapezoidFrom, runsFrom, loadRunsFrom, samplesFrom, loadSamplesFrom}
+use Rattle.film_commands.specs.Band.{Reading, read, refusedAt, readFrom, readBand}
+use Rattle.film_herald.specs.Herald.{pageCount, bandCount}
+use Rattle.film_herald.specs.Refusals.{Verdict, fine, first, lengthTable, passwordTable, sizeTable, loadTable, pageTable, frontTable, front}
+use Rattle.film_herald.specs.Refusals as refusals
+use Rattle.film_check.specs.Layout.{Layout, end, bad, band, bandsThen, pagesFrom, layoutOf}
+
+-- the number of pages, or a refusal
+pub data CheckAnswer : Type 0 where
+  pages : (count : ℕ) → CheckAnswer
+  refused : (number place : ℕ) → CheckAnswer
+
+-- what is read of the commands from place p of the sheet up to, not including, place e
+abbrev pub reading : (sheet load : List ℕ) (p e : ℕ) → Reading
+reading sheet load p e = readBand (loadWords load) (words (partOf sheet p e))
+
+-- of a band's commands, whose first has place p
+abbrev pub bandVerdict : ℕ → Reading → Verdict
+bandVerdict p (read cs) = fine
+bandVerdict p (refusedAt n i) = refusals.refused n (p + i)
+
+-- what comes after a verdict
+abbrev pub checkAfter : Verdict → CheckAnswer → CheckAnswer
+checkAfter fine a = a
+checkAfter (refusals.refused n p) a = refused n p
+
+-- the walk over all bands; 10: words after the last page
+unfoldable pub checkLayout : List ℕ → ℕ → Layout → CheckAnswer
+checkLayout load n (end p []) = pages n
+checkLayout load n (end p (w ∷ ws)) = refused 10 p
+checkLayout load n (bad k p) = refused k p
+checkLayout load n (band p ws rest) = checkAfter (bandVerdict p (readBand load ws)) (checkLayout load n rest)
+
+unfoldable pub checkAnswer : List ℕ → List ℕ → CheckAnswer
+checkAnswer sheet load =
+    let ws = words sheet in
+    checkAfter (front sheet load) (checkLayout (loadWords load) (pageCount ws) (layoutOf ws))
+
+-- ---- worked cases: sheets by their words, of 4 lines of 16 dots in one band where nothing else is said, maxLoadWords 9
+
+-- the first words up to copies, by imageSSize and bandSSize
+abbrev start : ℕ → ℕ → List ℕ
+start S B = 0xAAAA ∷ 1 ∷ 0 ∷ 0x0258 ∷ 0x0258 ∷ S ∷ 16 ∷ B ∷ 9 ∷ 0 ∷ 1 ∷ []
+
+-- what the check answers for the words of a sheet, and of a load
+abbrev checked : List ℕ → List ℕ → CheckAnswer
+checked ws ls = checkAnswer (bytesOf ws) (bytesOf ls)
+
+-- one page of one band, with these words from word 13 on, and the empty load
+abbrev oneBand : List ℕ → CheckAnswer
+oneBand rest = checked (start 4 4 ++ (1 ∷ 1 ∷ rest)) (0 ∷ 0 ∷ [])
+
+pub record CheckCases : Type 0 where
+  pub passes : oneBand (5 ∷ 5 ∷ 1 ∷ 2 ∷ 1 ∷ 3 ∷ []) ≡ pages 1
+  pub empty-band : oneBand (0 ∷ []) ≡ pages 1
+  pub number-1 : checkAnswer (0 ∷ []) (bytesOf (0 ∷ 0 ∷ [])) ≡ refused 1 0
+  pub number-2 : checked [] (0 ∷ 0 ∷ []) ≡ refused 2 0
+  pub number-3 : checked (start 4 5 ++ (1 ∷ [])) (0 ∷ 0 ∷ []) ≡ refused 3 7
+  pub number-4 : checked (start 4 4 ++ (1 ∷ 1 ∷ 0 ∷ [])) [] ≡ refused 4 8
+  pub number-5 : checked (start 4 4 ++ (0 ∷ [])) (0 ∷ 0 ∷ []) ≡ refused 5 11
+  pub number-5-bands : checked (start 4 2 ++ (1 ∷ 1 ∷ 0 ∷ [])) (0 ∷ 0 ∷ []) ≡ refused 5 12
+  pub number-6-missing : oneBand [] ≡ refused 6 13
+  pub number-6-page-missing : checked (start 4 4 ++ (2 ∷ 1 ∷ 0 ∷ [])) (0 ∷ 0 ∷ []) ≡ refused 6 14
+  pub number-6-band : oneBand (2 ∷ 99 ∷ []) ≡ refused 6 13
+  pub number-6-command : oneBand (3 ∷ 2 ∷ 5 ∷ 1 ∷ []) ≡ refused 6 15
+  pub number-7 : oneBand (1 ∷ 11 ∷ []) ≡ refused 7 14
+  pub number-8 : oneBand (4 ∷ 4 ∷ 2 ∷ 0 ∷ 0 ∷ []) ≡ refused 8 14
+  pub number-9 : oneBand (4 ∷ 4 ∷ 0 ∷ 0 ∷ 0 ∷ []) ≡ refused 9 14
+  pub number-10 : oneBand (1 ∷ 2 ∷ 7 ∷ []) ≡ refused 10 15
+  -- page 0's last band has a fault, and page 1 is missing: the first fault met is given
+  pub first-fault : checked (start 4 4 ++ (2 ∷ 1 ∷ 1 ∷ 99 ∷ [])) (0 ∷ 0 ∷ []) ≡ refused 7 14
+  pub two-pages : checked (start 4 2 ++ (2 ∷ 2 ∷ 0 ∷ 1 ∷ 2 ∷ 2 ∷ 1 ∷ 3 ∷ 0 ∷ [])) (0 ∷ 0 ∷ []) ≡ pages 2
+  -- runs from a load of 3 words, at address 0 and one too far
+  pub from-load : checked (start 4 4 ++ (1 ∷ 1 ∷ 4 ∷ 8 ∷ 0 ∷ 0 ∷ 2 ∷ [])) (3 ∷ 0 ∷ 1 ∷ 4 ∷ 0x8002 ∷ []) ≡ pages 1
+  pub past-load : checked (start 4 4 ++ (1 ∷ 1 ∷ 4 ∷ 8 ∷ 1 ∷ 0 ∷ 2 ∷ [])) (3 ∷ 0 ∷ 1 ∷ 4 ∷ 0x8002 ∷ []) ≡ refused 9 14
+
+pub check-cases : CheckCases
+unfolding checkAnswer checkLayout front first lengthTable passwordTable sizeTable loadTable pageTable frontTable words bytesOf loadCount loadWords bandCount bandsThen pagesFrom readBand readFrom command priorityFrom tileFrom rectangleFrom trapezoidFrom runsFrom loadRunsFrom samplesFrom loadSamplesFrom arrayExtent linesExtent groupExtent
+check-cases = search

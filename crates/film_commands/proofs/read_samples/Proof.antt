@@ -1,0 +1,74 @@
+-- `film_commands::read_samples` meets its contract: the array is a part of the sheet. Assumes nothing.
+use mathlib.Core.Path.{sym, _∙_}
+use native.Mathlib.Omega.{arith}
+use Rattle.film_words.specs.Words.{words}
+use Rattle.film_words.proofs.Words.{length-words}
+use Rattle.film_words.proofs.Answers.{words-some, past-none}
+use Rattle.film_commands.specs.Answers.{commandOf, partFor}
+use Rattle.film_commands.proofs.Commands.{samples-past, samples-there, samples-end}
+use Rattle.film_commands.proofs.Answers.{refused-at, whole-at}
+use Rattle.film_commands.proofs.read_samples.Statement.{statement}
+use Rattle.film_commands.proofs.read_samples.Tie as tie
+
+array-extent-requires : tie.Need-array-extent-requires
+array-extent-requires c κs = tt
+
+enum-known-r : tie.Need-enum-known-r
+enum-known-r c = c .match .keys1
+
+enum-told : tie.Need-enum-told
+enum-told c = c .match .keys2
+
+returns : tie.Need-returns
+returns c = λ l.
+    let x = c .before .before in
+    let a = x .before .before .before .args in
+    refused-at (a .p) 6 _ (samples-past (words (a .args .now)) (past-none _ (sym (c .enum-told .given .1) ∙ x .array-extent .ensures)))
+
+add-from : tie.Need-add-from
+add-from c = omega (arith, length-words (c .before .before .before .before .before .before .args .sheet .now))
+
+add-to : tie.Need-add-to
+add-to c =
+    let x = c .before .before .before in
+    let b = x .before .before .before in
+    let a = b .args in
+    let n = c .before .r .given in
+    omega (
+      arith,
+      length-words (a .sheet .now),
+      samples-end (a .sheet .now) (a .args .now) (a .p) (a .end) (b .pre .0) (b .pre .1) (b .pre .2) (n .0 .0)
+          (words-some _ _ (sym (n .1) ∙ x .array-extent .ensures)),
+    )
+
+word-requires : tie.Need-word-requires
+word-requires c κs = tt
+
+word-requires-2 : tie.Need-word-requires-2
+word-requires-2 c κs = tt
+
+returns-2 : tie.Need-returns-2
+unfolding commandOf partFor
+returns-2 c = λ l.
+    let x = c .before .before .before .before .before in
+    let b = x .before .before .before in
+    let a = b .args in
+    let n = c .before .before .before .r .given in
+    whole-at (a .p) _ _ _ _ _
+    (samples-there (a .sheet .now) (a .args .now) (a .p) (a .end) (b .pre .0) (b .pre .1) (b .pre .2) (n .0 .0) (c .before .word .ensures) (c .word2 .ensures)
+    (words-some _ _ (sym (n .1) ∙ x .array-extent .ensures)))
+    (omega arith)
+
+pub read-samples-spec : {M : Type 1} → statement M
+read-samples-spec =
+    tie.close
+    (tie.spec
+    array-extent-requires
+    enum-known-r
+    enum-told
+    returns
+    add-from
+    add-to
+    word-requires
+    word-requires-2
+    returns-2)

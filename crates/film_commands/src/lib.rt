@@ -1,0 +1,306 @@
+// The command reader. A command is read from a sheet at any place; what it names in the sheet or the load stays there, and is handed out
+// uncopied.
+ghost use mathlib.Core.Path.{_≡_};
+ghost use mathlib.Core.List.{List};
+ghost use Prim.Native.Nat.{ℕ, _+_, _<_, _≤_, _^_};
+ghost use lib.ListN.{length};
+ghost use Rattle.film_words.specs.Words.{words};
+ghost use Rattle.film_words.specs.Parts.{partOf};
+ghost use Rattle.film_words.specs.Load.{loadWords};
+ghost use Rattle.film_commands.specs.Commands.{priorityFrom, tileFrom, rectangleFrom, trapezoidFrom, runsFrom, loadRunsFrom, samplesFrom, loadSamplesFrom, commandIn};
+ghost use Rattle.film_commands.specs.Answers.{named, partFor, placed, told};
+use film_words::Extent;
+use film_words::array_extent;
+use film_words::group_extent;
+use film_words::long;
+use film_words::part;
+use film_words::word;
+
+// A command. `from` and `to` are places in the sheet, or in the load file for a tile and for what comes from the load: the tile, run group or
+// sample array stands in the words from `from` up to, not including, `to`.
+pub enum Command {
+    Priority(u32),
+    Ink,
+    Clear,
+    Tile {
+        transparent: bool,
+        from: usize,
+        to: usize,
+    },
+    Rectangle {
+        s_min: u16,
+        s_size: u16,
+        f_min: u16,
+        f_size: u16,
+    },
+    Trapezoid {
+        s_min: u16,
+        s_size: u16,
+        f_min: u16,
+        f_size: u16,
+        f_min_last: u16,
+        f_size_last: u16,
+    },
+    Runs {
+        s_min: u16,
+        from: usize,
+        to: usize,
+    },
+    LoadRuns {
+        s_min: u16,
+        from: usize,
+        to: usize,
+    },
+    Samples {
+        s_min: u16,
+        f_min: u16,
+        from: usize,
+        to: usize,
+    },
+    LoadSamples {
+        s_min: u16,
+        f_min: u16,
+        from: usize,
+        to: usize,
+    },
+}
+
+// A whole command and the place after it, or a refusal's number and place.
+pub enum Read {
+    Whole(Command, usize),
+    Refused(u8, usize),
+}
+
+// The refusals of one command, in their order: an unknown code; a command past its band; an argument that it may not have; a tile, group or
+// array past the load, or a tile with a side of 0.
+const UNKNOWN_CODE: u8 = 7;
+
+const CUT: u8 = 6;
+
+const BAD_ARGUMENT: u8 = 8;
+
+const BAD_LOAD: u8 = 9;
+
+// The readers of one command each. `args` are the words after the code word, up to the band's end, and p is the code word's place.
+
+fn read_priority(args: &[u8], p: usize, least: u32) -> Read
+    requires { ⌜ p < 2 ^ 62 ⌝ }
+    ensures { λ r. ⌜ ((s l : List ℕ) → told s l r ≡ placed p (priorityFrom least (words (now (args .entry))))) ⌝ }
+{
+    if args.len() / 2 < 2 {
+        return Read::Refused(CUT, p);
+    }
+    if word(args, 1) > 255 {
+        return Read::Refused(BAD_ARGUMENT, p);
+    }
+    let value = long(args, 0);
+    if value < least {
+        return Read::Refused(BAD_ARGUMENT, p);
+    }
+    Read::Whole(Command::Priority(value), p + 3)
+}
+
+// Addresses of the load count after its two count words, here and in the two other readers from the load.
+fn read_tile(args: &[u8], load: &[u8], p: usize) -> Read
+    requires { ⌜ p < 2 ^ 62 ⌝ }
+    ensures { λ r. ⌜ ((s : List ℕ) → told s (now (load .entry)) r ≡ placed p (tileFrom (loadWords (now (load .entry))) (words (now (args .entry))))) ⌝ }
+{
+    if args.len() / 2 < 3 {
+        return Read::Refused(CUT, p);
+    }
+    let mode = word(args, 0);
+    if mode > 1 {
+        return Read::Refused(BAD_ARGUMENT, p);
+    }
+    let from = 2 + long(args, 1) as usize;
+    let r = array_extent(load, from + 3);
+    let Extent::Words(n) = r else {
+        return Read::Refused(BAD_LOAD, p);
+    };
+    if word(load, from + 3) == 0 {
+        return Read::Refused(BAD_LOAD, p);
+    }
+    if word(load, from + 4) == 0 {
+        return Read::Refused(BAD_LOAD, p);
+    }
+    Read::Whole(
+        Command::Tile {
+            transparent: mode == 1,
+            from,
+            to: from + (3 + n),
+        },
+        p + 4,
+    )
+}
+
+fn read_rectangle(args: &[u8], p: usize) -> Read
+    requires { ⌜ p < 2 ^ 62 ⌝ }
+    ensures { λ r. ⌜ ((s l : List ℕ) → told s l r ≡ placed p (rectangleFrom (words (now (args .entry))))) ⌝ }
+{
+    if args.len() / 2 < 4 {
+        return Read::Refused(CUT, p);
+    }
+    Read::Whole(
+        Command::Rectangle {
+            s_min: word(args, 0),
+            s_size: word(args, 1),
+            f_min: word(args, 2),
+            f_size: word(args, 3),
+        },
+        p + 5,
+    )
+}
+
+fn read_trapezoid(args: &[u8], p: usize) -> Read
+    requires { ⌜ p < 2 ^ 62 ⌝ }
+    ensures { λ r. ⌜ ((s l : List ℕ) → told s l r ≡ placed p (trapezoidFrom (words (now (args .entry))))) ⌝ }
+{
+    if args.len() / 2 < 6 {
+        return Read::Refused(CUT, p);
+    }
+    let s_size = word(args, 1);
+    if s_size == 1 {
+        return Read::Refused(BAD_ARGUMENT, p);
+    }
+    Read::Whole(
+        Command::Trapezoid {
+            s_min: word(args, 0),
+            s_size,
+            f_min: word(args, 2),
+            f_size: word(args, 3),
+            f_min_last: word(args, 4),
+            f_size_last: word(args, 5),
+        },
+        p + 7,
+    )
+}
+
+// The group stands two words after the code word, in the sheet of which `args` is the part from place p + 1 up to `end`.
+fn read_runs(sheet: &[u8], args: &[u8], p: usize, end: usize) -> Read
+    requires { ⌜ (p < end) × (end ≤ length (words (now sheet))) × (now args ≡ partOf (now sheet) (p + 1) end) ⌝ }
+    ensures { λ r. ⌜ ((l : List ℕ) → told (now (sheet .entry)) l r ≡ placed p (runsFrom (words (now (args .entry))))) ⌝ }
+{
+    let r = group_extent(args, 1);
+    let Extent::Words(n) = r else {
+        return Read::Refused(CUT, p);
+    };
+    let from = p + 2;
+    let to = from + n;
+    Read::Whole(
+        Command::Runs {
+            s_min: word(args, 0),
+            from,
+            to,
+        },
+        to,
+    )
+}
+
+fn read_load_runs(args: &[u8], load: &[u8], p: usize) -> Read
+    requires { ⌜ p < 2 ^ 62 ⌝ }
+    ensures { λ r. ⌜ ((s : List ℕ) → told s (now (load .entry)) r ≡ placed p (loadRunsFrom (loadWords (now (load .entry))) (words (now (args .entry))))) ⌝ }
+{
+    if args.len() / 2 < 3 {
+        return Read::Refused(CUT, p);
+    }
+    let from = 2 + long(args, 0) as usize;
+    let r = group_extent(load, from);
+    let Extent::Words(n) = r else {
+        return Read::Refused(BAD_LOAD, p);
+    };
+    Read::Whole(
+        Command::LoadRuns {
+            s_min: word(args, 2),
+            from,
+            to: from + n,
+        },
+        p + 4,
+    )
+}
+
+// The array stands three words after the code word.
+fn read_samples(sheet: &[u8], args: &[u8], p: usize, end: usize) -> Read
+    requires { ⌜ (p < end) × (end ≤ length (words (now sheet))) × (now args ≡ partOf (now sheet) (p + 1) end) ⌝ }
+    ensures { λ r. ⌜ ((l : List ℕ) → told (now (sheet .entry)) l r ≡ placed p (samplesFrom (words (now (args .entry))))) ⌝ }
+{
+    let r = array_extent(args, 2);
+    let Extent::Words(n) = r else {
+        return Read::Refused(CUT, p);
+    };
+    let from = p + 3;
+    let to = from + n;
+    Read::Whole(
+        Command::Samples {
+            s_min: word(args, 0),
+            f_min: word(args, 1),
+            from,
+            to,
+        },
+        to,
+    )
+}
+
+fn read_load_samples(args: &[u8], load: &[u8], p: usize) -> Read
+    requires { ⌜ p < 2 ^ 62 ⌝ }
+    ensures { λ r. ⌜ ((s : List ℕ) → told s (now (load .entry)) r ≡ placed p (loadSamplesFrom (loadWords (now (load .entry))) (words (now (args .entry))))) ⌝ }
+{
+    if args.len() / 2 < 4 {
+        return Read::Refused(CUT, p);
+    }
+    let from = 2 + long(args, 0) as usize;
+    let r = array_extent(load, from);
+    let Extent::Words(n) = r else {
+        return Read::Refused(BAD_LOAD, p);
+    };
+    Read::Whole(
+        Command::LoadSamples {
+            s_min: word(args, 2),
+            f_min: word(args, 3),
+            from,
+            to: from + n,
+        },
+        p + 5,
+    )
+}
+
+// The command at place p of a band that ends before place `end`, where the band's priority so far is `least`. Where the sheet has not all words
+// from p up to `end`, or there are none, no command is there, and 6 is given at p.
+pub fn read_command(sheet: &[u8], load: &[u8], p: usize, end: usize, least: u32) -> Read
+    ensures { λ r. ⌜ told (now (sheet .entry)) (now (load .entry)) r ≡ placed p (commandIn (loadWords (now (load .entry))) least (words (partOf (now (sheet .entry)) p end))) ⌝ }
+{
+    if end > sheet.len() / 2 {
+        return Read::Refused(CUT, p);
+    }
+    if p >= end {
+        return Read::Refused(CUT, p);
+    }
+    let args = part(sheet, p + 1, end);
+    match word(sheet, p) {
+        1 => read_priority(args, p, least),
+        2 => Read::Whole(Command::Ink, p + 1),
+        3 => Read::Whole(Command::Clear, p + 1),
+        4 => read_tile(args, load, p),
+        5 => read_rectangle(args, p),
+        6 => read_trapezoid(args, p),
+        7 => read_runs(sheet, args, p, end),
+        8 => read_load_runs(args, load, p),
+        9 => read_samples(sheet, args, p, end),
+        10 => read_load_samples(args, load, p),
+        _ => Read::Refused(UNKNOWN_CODE, p),
+    }
+}
+
+// The words that a command names, uncopied: a part of the sheet, or of the load for a tile and for what comes from the load. Empty where it
+// names none, or its range is not in the file.
+pub fn mask_words<'a>(sheet: &'a [u8], load: &'a [u8], c: Command) -> &'a [u8]
+    ensures { λ r. ⌜ now r ≡ partFor (now (sheet .entry)) (now (load .entry)) (named c) ⌝ }
+{
+    match c {
+        Command::Tile { from, to, .. } => part(load, from, to),
+        Command::Runs { from, to, .. } => part(sheet, from, to),
+        Command::LoadRuns { from, to, .. } => part(load, from, to),
+        Command::Samples { from, to, .. } => part(sheet, from, to),
+        Command::LoadSamples { from, to, .. } => part(load, from, to),
+        _ => &sheet[0..0],
+    }
+}

@@ -1,2 +1,0 @@
--- The laws of forms, for the proofs of this crate. Those of commands and groups are in crates/gdi/proofs.
-pub mod Forms

@@ -1,2 +1,0 @@
--- What the code's answers say: Answers. Groups, and what comes next in a page, are defined in crates/gdi/specs, in Groups and Pages.
-pub mod Answers

@@ -1,6 +1,0 @@
-// Lists the sheet of crates/listing_longest and a word more. The program is that of crates/listing.
-fn main() {
-    let mut input = [0u8; 65537];
-    let n = io::read_full(0, &mut input);
-    lister::list(&input[..n]);
-}
