@@ -1,49 +1,37 @@
 -- What the check answers, for every two byte strings offered as sheet and load.
 use mathlib.Core.Path.{_≡_}
 use mathlib.Core.List.{List, [], _∷_, _++_}
-use Prim.Native.Nat.{ℕ, _+_}
+use Prim.Native.Nat.{ℕ}
+use Rattle.refusal.specs.Answers.{Answer, given, refused, andThen}
 use Rattle.film_words.specs.Words.{words, bytesOf}
-use Rattle.film_words.specs.Parts.{partOf}
 use Rattle.film_words.specs.Load.{loadCount, loadWords}
 use Rattle.film_words.specs.Arrays.{arrayExtent}
 use Rattle.film_words.specs.Groups.{linesExtent, groupExtent}
 use Rattle.film_commands.specs.Commands.{command, priorityFrom, tileFrom, rectangleFrom, trapezoidFrom, runsFrom, loadRunsFrom, samplesFrom, loadSamplesFrom}
-use Rattle.film_commands.specs.Band.{Reading, read, refusedAt, readFrom, readBand}
+use Rattle.film_commands.specs.Band.{readFrom, readBand, bandTest}
 use Rattle.film_herald.specs.Herald.{pageCount, bandCount}
-use Rattle.film_herald.specs.Refusals.{Verdict, fine, first, lengthTable, passwordTable, sizeTable, loadTable, pageTable, frontTable, front}
-use Rattle.film_herald.specs.Refusals as refusals
-use Rattle.film_check.specs.Layout.{Layout, end, bad, band, bandsThen, pagesFrom, layoutOf}
+use Rattle.film_herald.specs.Refusals.{first, lengthTable, passwordTable, sizeTable, loadTable, pageTable, heraldTable, heraldTest}
+use Rattle.film_layout.specs.Layout.{Layout, pageHead, band, ends, bandsThen, pagesFrom, layoutOf}
 
 -- the number of pages, or a refusal
-pub data CheckAnswer : Type 0 where
-  pages : (count : ℕ) → CheckAnswer
-  refused : (number place : ℕ) → CheckAnswer
+abbrev pub CheckAnswer : Type 0
+CheckAnswer = Answer ℕ
 
--- what is read of the commands from place p of the sheet up to, not including, place e
-abbrev pub reading : (sheet load : List ℕ) (p e : ℕ) → Reading
-reading sheet load p e = readBand (loadWords load) (words (partOf sheet p e))
+-- 10: words after the last page
+abbrev pub nothingAfter : (place : ℕ) → List ℕ → (pages : ℕ) → CheckAnswer
+nothingAfter p [] n = given n
+nothingAfter p (w ∷ ws) n = refused 10 p
 
--- of a band's commands, whose first has place p
-abbrev pub bandVerdict : ℕ → Reading → Verdict
-bandVerdict p (read cs) = fine
-bandVerdict p (refusedAt n i) = refusals.refused n (p + i)
+-- the walk over all bands of n pages
+unfoldable pub checkLayout : (load : List ℕ) (n : ℕ) → Layout → CheckAnswer
+checkLayout load n (pageHead w rest) = checkLayout load n rest
+checkLayout load n (band x rest) = andThen (bandTest load (x .place) (x .words)) (λ u. checkLayout load n rest)
+checkLayout load n (ends a) = andThen a (λ x. nothingAfter (x .place) (x .words) n)
 
--- what comes after a verdict
-abbrev pub checkAfter : Verdict → CheckAnswer → CheckAnswer
-checkAfter fine a = a
-checkAfter (refusals.refused n p) a = refused n p
-
--- the walk over all bands; 10: words after the last page
-unfoldable pub checkLayout : List ℕ → ℕ → Layout → CheckAnswer
-checkLayout load n (end p []) = pages n
-checkLayout load n (end p (w ∷ ws)) = refused 10 p
-checkLayout load n (bad k p) = refused k p
-checkLayout load n (band p ws rest) = checkAfter (bandVerdict p (readBand load ws)) (checkLayout load n rest)
-
-unfoldable pub checkAnswer : List ℕ → List ℕ → CheckAnswer
+unfoldable pub checkAnswer : (sheet load : List ℕ) → CheckAnswer
 checkAnswer sheet load =
     let ws = words sheet in
-    checkAfter (front sheet load) (checkLayout (loadWords load) (pageCount ws) (layoutOf ws))
+    andThen (heraldTest sheet load) (λ u. checkLayout (loadWords load) (pageCount ws) (layoutOf ws))
 
 -- ---- worked cases: sheets by their words, of 4 lines of 16 dots in one band where nothing else is said, maxLoadWords 9
 
@@ -60,8 +48,8 @@ abbrev oneBand : List ℕ → CheckAnswer
 oneBand rest = checked (start 4 4 ++ (1 ∷ 1 ∷ rest)) (0 ∷ 0 ∷ [])
 
 pub record CheckCases : Type 0 where
-  pub passes : oneBand (5 ∷ 5 ∷ 1 ∷ 2 ∷ 1 ∷ 3 ∷ []) ≡ pages 1
-  pub empty-band : oneBand (0 ∷ []) ≡ pages 1
+  pub passes : oneBand (5 ∷ 5 ∷ 1 ∷ 2 ∷ 1 ∷ 3 ∷ []) ≡ given 1
+  pub empty-band : oneBand (0 ∷ []) ≡ given 1
   pub number-1 : checkAnswer (0 ∷ []) (bytesOf (0 ∷ 0 ∷ [])) ≡ refused 1 0
   pub number-2 : checked [] (0 ∷ 0 ∷ []) ≡ refused 2 0
   pub number-3 : checked (start 4 5 ++ (1 ∷ [])) (0 ∷ 0 ∷ []) ≡ refused 3 7
@@ -78,11 +66,11 @@ pub record CheckCases : Type 0 where
   pub number-10 : oneBand (1 ∷ 2 ∷ 7 ∷ []) ≡ refused 10 15
   -- page 0's last band has a fault, and page 1 is missing: the first fault met is given
   pub first-fault : checked (start 4 4 ++ (2 ∷ 1 ∷ 1 ∷ 99 ∷ [])) (0 ∷ 0 ∷ []) ≡ refused 7 14
-  pub two-pages : checked (start 4 2 ++ (2 ∷ 2 ∷ 0 ∷ 1 ∷ 2 ∷ 2 ∷ 1 ∷ 3 ∷ 0 ∷ [])) (0 ∷ 0 ∷ []) ≡ pages 2
+  pub two-pages : checked (start 4 2 ++ (2 ∷ 2 ∷ 0 ∷ 1 ∷ 2 ∷ 2 ∷ 1 ∷ 3 ∷ 0 ∷ [])) (0 ∷ 0 ∷ []) ≡ given 2
   -- runs from a load of 3 words, at address 0 and one too far
-  pub from-load : checked (start 4 4 ++ (1 ∷ 1 ∷ 4 ∷ 8 ∷ 0 ∷ 0 ∷ 2 ∷ [])) (3 ∷ 0 ∷ 1 ∷ 4 ∷ 0x8002 ∷ []) ≡ pages 1
+  pub from-load : checked (start 4 4 ++ (1 ∷ 1 ∷ 4 ∷ 8 ∷ 0 ∷ 0 ∷ 2 ∷ [])) (3 ∷ 0 ∷ 1 ∷ 4 ∷ 0x8002 ∷ []) ≡ given 1
   pub past-load : checked (start 4 4 ++ (1 ∷ 1 ∷ 4 ∷ 8 ∷ 1 ∷ 0 ∷ 2 ∷ [])) (3 ∷ 0 ∷ 1 ∷ 4 ∷ 0x8002 ∷ []) ≡ refused 9 14
 
 pub check-cases : CheckCases
-unfolding checkAnswer checkLayout front first lengthTable passwordTable sizeTable loadTable pageTable frontTable words bytesOf loadCount loadWords bandCount bandsThen pagesFrom readBand readFrom command priorityFrom tileFrom rectangleFrom trapezoidFrom runsFrom loadRunsFrom samplesFrom loadSamplesFrom arrayExtent linesExtent groupExtent
+unfolding checkAnswer checkLayout heraldTest first lengthTable passwordTable sizeTable loadTable pageTable heraldTable words bytesOf loadCount loadWords bandCount bandsThen pagesFrom readBand readFrom command priorityFrom tileFrom rectangleFrom trapezoidFrom runsFrom loadRunsFrom samplesFrom loadSamplesFrom arrayExtent linesExtent groupExtent
 check-cases = search

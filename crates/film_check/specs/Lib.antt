@@ -1,6 +1,5 @@
--- The film sheet. The files, in reading order: Layout (pages and bands as they stand in the sheet), Check (what the check answers) and Answers
--- (what the code's answer says). Each but the last ends with worked cases that the check computes. The herald and the refusals before the walk
--- are in crates/film_herald/specs. How to read them is said in crates/row/specs/Lib.antt and crates/film_words/specs/Lib.antt.
-pub mod Layout
+-- The check of a film sheet. The files, in reading order: Check (what the check answers), which ends with worked cases that the check computes, and
+-- Promise (what it promises). The layout of a sheet is in crates/film_layout/specs, the refusals before the walk are in crates/film_herald/specs.
+-- How to read them is said in crates/row/specs/Lib.antt, crates/refusal/specs/Lib.antt and crates/film_words/specs/Lib.antt.
 pub mod Check
-pub mod Answers
+pub mod Promise

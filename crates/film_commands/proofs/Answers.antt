@@ -1,14 +1,19 @@
--- Laws of the answers: what was read, at its place. Assumes nothing.
+-- Laws of the code's answers: what was read, at its place. Assumes nothing.
 use mathlib.Core.Path.{_≡_, sym, ap, _∙_}
 use Prim.Native.Nat.{ℕ, suc, _+_}
 use native.Mathlib.Nat.{add-zero}
-use Rattle.film_commands.specs.Commands.{Command, Source, Taken, taken, atCode}
-use Rattle.film_commands.specs.Answers.{whole, refused, located, placed}
+use Rattle.refusal.specs.Answers.{given, refused}
+use Rattle.film_commands.specs.Commands.{Command, Source, Taken, taken}
+use Rattle.film_commands.specs.Code.{whole, located, placed}
 
 -- a refusal has the place of the code word
-pub refused-at : (p number : ℕ) (t : Taken) → t ≡ atCode number → refused number p ≡ placed p t
+pub refused-at : (p number : ℕ) (t : Taken) → t ≡ refused number 0 → refused number p ≡ placed p t
 refused-at p number t e = sym (ap (placed p) e ∙ ap (refused number) (add-zero p))
 
 -- a whole command ends before place q
 pub whole-at : (p n q : ℕ) (c : Command) (src : Source) (t : Taken) → t ≡ taken c src n → q ≡ p + suc n → whole c (located p src) q ≡ placed p t
 whole-at p n q c src t e h = ap (whole c (located p src)) h ∙ sym (ap (placed p) e)
+
+-- what is given is the same where the answers are
+pub given-same : {A : Type 0} {a b : A} → given a ≡ given b → a ≡ b
+given-same e = cc

@@ -10,6 +10,7 @@ use borrow.Author.Tests.{ltb-true, lt-ltb, le-ltb, le-leb, lt-leb, eq-eqb, ne-eq
 use lib.Dec.{leb, ltb, eqb}
 use lib.ListN.{length, take, drop, length-drop, drop-of-length-le}
 use lib.Seq.{drop-drop}
+use Rattle.refusal.specs.Answers.{refused}
 use Rattle.film_words.specs.Words.{words, at, longAt}
 use Rattle.film_words.specs.Parts.{partOf}
 use Rattle.film_words.specs.Load.{loadWords}
@@ -18,14 +19,14 @@ use Rattle.film_words.specs.Groups.{groupExtent, group-cases}
 use Rattle.film_words.proofs.Words.{length-words, at-drop}
 use Rattle.film_words.proofs.Arrays.{array-fits}
 use Rattle.film_words.proofs.Groups.{group-fits}
-use Rattle.film_commands.specs.Commands.{Taken, taken, nowhere, inBand, inLoad, atCode, needs, extended, refuseIf, priority, paint, rectangle, trapezoid, runs, samples, tiled, sideless, priorityFrom, tileFrom, rectangleFrom, trapezoidFrom, runsFrom, loadRunsFrom, samplesFrom, loadSamplesFrom, command, commandIn}
 use Rattle.film_words.proofs.Parts.{part-length, part-first, part-taken, part-within}
 use Rattle.film_words.proofs.Load.{load-from}
+use Rattle.film_commands.specs.Commands.{Taken, taken, nowhere, inBand, inLoad, needs, extended, refuseIf, priority, setTile, paint, rectangle, trapezoid, runs, samples, emptyTile, priorityFrom, tileFrom, rectangleFrom, trapezoidFrom, runsFrom, loadRunsFrom, samplesFrom, loadSamplesFrom, command, commandIn}
 
 -- ---- the words after the code word
 
 -- too few
-pub too-few : (n : ℕ) (args : List ℕ) (t : Taken) → length args < n → needs n args t ≡ atCode 6
+pub too-few : (n : ℕ) (args : List ℕ) (t : Taken) → length args < n → needs n args t ≡ refused 6 0
 too-few n args t h = rw (lt-leb n (length args) h) refl
 
 -- enough
@@ -36,12 +37,13 @@ enough n args t h = rw (le-leb n (length args) h) refl
 
 module _ (ws : List ℕ) where
   -- the high word of a priority is too high
-  pub priority-high : (now : ℕ) {high : ℕ} → 2 ≤ length ws → high ≡ at ws 1 → 255 < high → priorityFrom now ws ≡ atCode 8
+  pub priority-high : (now : ℕ) {high : ℕ} → 2 ≤ length ws → high ≡ at ws 1 → 255 < high → priorityFrom now ws ≡ refused 8 0
   unfolding priorityFrom
   priority-high now {high} l w h = rw (le-leb 2 (length ws) l, lt-ltb 255 (at ws 1) (omega arith)) refl
 
   -- a priority falls
-  pub priority-falls : (now : ℕ) {high value : ℕ} → 2 ≤ length ws → high ≡ at ws 1 → high ≤ 255 → value ≡ longAt ws 0 → value < now → priorityFrom now ws ≡ atCode 8
+  pub priority-falls : (now : ℕ) {high value : ℕ} → 2 ≤ length ws → high ≡ at ws 1 → high ≤ 255 → value ≡ longAt ws 0 → value < now
+      → priorityFrom now ws ≡ refused 8 0
   unfolding priorityFrom
   priority-falls now {high} {value} l w h v f =
       rw (le-leb 2 (length ws) l, le-ltb 255 (at ws 1) (omega arith), lt-ltb (longAt ws 0) now (omega arith)) refl
@@ -61,7 +63,7 @@ module _ (ws : List ℕ) where
   rectangle-read a b c d l = enough 4 ws _ l ∙ cc
 
   -- a trapezoid of one row
-  pub trapezoid-one-row : 6 ≤ length ws → at ws 1 ≡ 1 → trapezoidFrom ws ≡ atCode 8
+  pub trapezoid-one-row : 6 ≤ length ws → at ws 1 ≡ 1 → trapezoidFrom ws ≡ refused 8 0
   unfolding trapezoidFrom
   trapezoid-one-row l e = rw (le-leb 6 (length ws) l, eq-eqb (at ws 1) 1 e) refl
 
@@ -75,7 +77,7 @@ module _ (ws : List ℕ) where
 
 -- a trapezoid of sSize 1 is refused, whatever its other words are
 pub one-row : (load args : List ℕ) (least sMin fMin fSize fMinLast fSizeLast : ℕ)
-    → commandIn load least (6 ∷ sMin ∷ 1 ∷ fMin ∷ fSize ∷ fMinLast ∷ fSizeLast ∷ args) ≡ atCode 8
+    → commandIn load least (6 ∷ sMin ∷ 1 ∷ fMin ∷ fSize ∷ fMinLast ∷ fSizeLast ∷ args) ≡ refused 8 0
 unfolding commandIn command
 one-row load args least sMin fMin fSize fMinLast fSizeLast = trapezoid-one-row _ (omega arith) refl
 
@@ -109,12 +111,12 @@ module _ {Extent : List ℕ → Option ℕ} (measure : Measure Extent) where
   room file q n e = omega (arith, measure .fits (drop q (words file)) n e, length-drop q (words file), length-words file)
 
   -- after k words of the sheet it runs past the band's end
-  sheet-past : (k : ℕ) (ws : List ℕ) (t : ℕ → Taken) → Extent (drop k ws) ≡ none → needs k ws (extended 6 (Extent (drop k ws)) t) ≡ atCode 6
-  sheet-past k ws t e = rw e (go (leb k (length ws)))
+  sheet-past : (k : ℕ) (ws : List ℕ) (t : ℕ → Taken) → Extent (drop k ws) ≡ none → needs k ws (extended 6 (Extent (drop k ws)) t) ≡ refused 6 0
+  sheet-past k ws t e = rw e (go (leb k (length ws)) (refused 6 0))
     where
-      go : (b : Bool) → cond b (atCode 6) (atCode 6) ≡ atCode 6
-      go true = refl
-      go false = refl
+      go : (b : Bool) (r : Taken) → cond b r r ≡ r
+      go true r = refl
+      go false r = refl
 
   -- it is there
   sheet-there : (k : ℕ) (ws : List ℕ) (t : ℕ → Taken) (n : ℕ) → Extent (drop k ws) ≡ some n → needs k ws (extended 6 (Extent (drop k ws)) t) ≡ t n
@@ -154,11 +156,11 @@ array-room = room arrays
 
 -- ---- 7 and 9, in the sheet
 
-pub runs-past : (ws : List ℕ) → groupExtent (drop 1 ws) ≡ none → runsFrom ws ≡ atCode 6
+pub runs-past : (ws : List ℕ) → groupExtent (drop 1 ws) ≡ none → runsFrom ws ≡ refused 6 0
 unfolding runsFrom
 runs-past ws x = sheet-past groups 1 ws _ x
 
-pub samples-past : (ws : List ℕ) → arrayExtent (drop 2 ws) ≡ none → samplesFrom ws ≡ atCode 6
+pub samples-past : (ws : List ℕ) → arrayExtent (drop 2 ws) ≡ none → samplesFrom ws ≡ refused 6 0
 unfolding samplesFrom
 samples-past ws x = sheet-past arrays 2 ws _ x
 
@@ -189,7 +191,7 @@ module _ (sheet args : List ℕ) (p e : ℕ) (h : p < e) (l : e ≤ length (word
 -- ---- 8 and 10, in the load
 
 module _ (load ws : List ℕ) (v : ℕ) (h : v ≡ longAt ws 0) where
-  pub load-runs-past : 3 ≤ length ws → groupExtent (drop (2 + v) (words load)) ≡ none → loadRunsFrom (loadWords load) ws ≡ atCode 9
+  pub load-runs-past : 3 ≤ length ws → groupExtent (drop (2 + v) (words load)) ≡ none → loadRunsFrom (loadWords load) ws ≡ refused 9 0
   unfolding loadRunsFrom
   load-runs-past l x = load-measured groups 3 load ws v (longAt ws 0) _ none l h x
 
@@ -200,11 +202,12 @@ module _ (load ws : List ℕ) (v : ℕ) (h : v ≡ longAt ws 0) where
       let part = load-part groups load v (longAt ws 0) n h x in
       load-measured groups 3 load ws v (longAt ws 0) _ (some n) l h x ∙ rw (m, part, h) refl
 
-  pub load-samples-past : 4 ≤ length ws → arrayExtent (drop (2 + v) (words load)) ≡ none → loadSamplesFrom (loadWords load) ws ≡ atCode 9
+  pub load-samples-past : 4 ≤ length ws → arrayExtent (drop (2 + v) (words load)) ≡ none → loadSamplesFrom (loadWords load) ws ≡ refused 9 0
   unfolding loadSamplesFrom
   load-samples-past l x = load-measured arrays 4 load ws v (longAt ws 0) _ none l h x
 
-  pub load-samples-there : {sMin fMin : ℕ} (n : ℕ) → sMin ≡ at ws 2 → fMin ≡ at ws 3 → 4 ≤ length ws → arrayExtent (drop (2 + v) (words load)) ≡ some n
+  pub load-samples-there : {sMin fMin : ℕ} (n : ℕ) → sMin ≡ at ws 2 → fMin ≡ at ws 3 → 4 ≤ length ws
+      → arrayExtent (drop (2 + v) (words load)) ≡ some n
       → loadSamplesFrom (loadWords load) ws ≡ taken (paint (samples sMin fMin (words (partOf load (2 + v) (2 + v + n))))) (inLoad v n) 4
   unfolding loadSamplesFrom
   load-samples-there n m f l x =
@@ -214,7 +217,7 @@ module _ (load ws : List ℕ) (v : ℕ) (h : v ≡ longAt ws 0) where
 -- ---- 4, in the load
 
 -- neither opaque nor transparent
-pub tile-mode : (load ws : List ℕ) {mode : ℕ} → 3 ≤ length ws → mode ≡ at ws 0 → 1 < mode → tileFrom load ws ≡ atCode 8
+pub tile-mode : (load ws : List ℕ) {mode : ℕ} → 3 ≤ length ws → mode ≡ at ws 0 → 1 < mode → tileFrom load ws ≡ refused 8 0
 unfolding tileFrom
 tile-mode load ws l m h = rw (le-leb 3 (length ws) l, lt-ltb 1 (at ws 0) (omega arith)) refl
 
@@ -232,22 +235,23 @@ module _ (load ws : List ℕ) (v mode : ℕ) (h : v ≡ longAt ws 1) (l : 3 ≤ 
   -- after the tests on its words, the tile's array is measured
   tile-measured : (x : Option ℕ) → arrayExtent (drop (2 + v + 3) (words load)) ≡ x
       → tileFrom (loadWords load) ws
-      ≡ extended 9 x (λ n. refuseIf (sideless (tileAt load ws)) 9 (taken (tiled (eqb (at ws 0) 1) (take (3 + n) (tileAt load ws))) (inLoad (longAt ws 1) (3 + n)) 3))
+      ≡ extended 9 x (λ n. refuseIf (emptyTile (tileAt load ws)) 9 0
+      (taken (setTile (eqb (at ws 0) 1) (longAt ws 1) (take (3 + n) (tileAt load ws))) (inLoad (longAt ws 1) (3 + n)) 3))
   unfolding tileFrom
   tile-measured x e = rw (le-leb 3 (length ws) l, le-ltb 1 (at ws 0) (omega arith), ← tile-from 3, e) refl
 
   -- it runs past the load's end
-  pub tile-past : arrayExtent (drop (2 + v + 3) (words load)) ≡ none → tileFrom (loadWords load) ws ≡ atCode 9
+  pub tile-past : arrayExtent (drop (2 + v + 3) (words load)) ≡ none → tileFrom (loadWords load) ws ≡ refused 9 0
   tile-past x = tile-measured none x
 
   -- it is there
   module _ (n : ℕ) (x : arrayExtent (drop (2 + v + 3) (words load)) ≡ some n) {lines : ℕ} (w : lines ≡ at (words load) (2 + v + 3)) where
     -- and has no lines
-    pub tile-no-lines : lines ≡ 0 → tileFrom (loadWords load) ws ≡ atCode 9
+    pub tile-no-lines : lines ≡ 0 → tileFrom (loadWords load) ws ≡ refused 9 0
     tile-no-lines z = tile-measured (some n) x ∙ rw (eq-eqb _ 0 (sym (tile-word 3) ∙ sym w ∙ z)) refl
 
     -- its lines have no dots
-    pub tile-no-dots : {dots : ℕ} → (lines ≡ 0 → ⊥) → dots ≡ at (words load) (2 + v + 4) → dots ≡ 0 → tileFrom (loadWords load) ws ≡ atCode 9
+    pub tile-no-dots : {dots : ℕ} → (lines ≡ 0 → ⊥) → dots ≡ at (words load) (2 + v + 4) → dots ≡ 0 → tileFrom (loadWords load) ws ≡ refused 9 0
     tile-no-dots s d z =
         tile-measured (some n) x ∙ rw (ne-eqb _ 0 (λ y. s (w ∙ tile-word 3 ∙ y)), eq-eqb _ 0 (sym (tile-word 4) ∙ sym d ∙ z)) refl
 
@@ -258,17 +262,18 @@ module _ (load ws : List ℕ) (v mode : ℕ) (h : v ≡ longAt ws 1) (l : 3 ≤ 
         let r : 3 + n ≤ length (drop (2 + v) (words load)) = omega (arith, length-drop (2 + v) (words load), length-drop (2 + v + 3) (words load)) in
         part-taken load (2 + v) (3 + n) r ∙ ap (take (3 + n)) (load-from load v _ h)
 
-    -- it has both
+    -- it has both; its address is its place in the load file less the two words of the count
     pub tile-there : {dots : ℕ} → (lines ≡ 0 → ⊥) → dots ≡ at (words load) (2 + v + 4) → (dots ≡ 0 → ⊥)
-        → tileFrom (loadWords load) ws ≡ taken (tiled (eqb mode 1) (words (partOf load (2 + v) (2 + v + (3 + n))))) (inLoad v (3 + n)) 3
+        → tileFrom (loadWords load) ws ≡ taken (setTile (eqb mode 1) (2 + v - 2) (words (partOf load (2 + v) (2 + v + (3 + n))))) (inLoad v (3 + n)) 3
     tile-there s d t =
+        let address : 2 + v - 2 ≡ v = omega arith in
         tile-measured (some n) x
-        ∙ rw (ne-eqb _ 0 (λ y. s (w ∙ tile-word 3 ∙ y)), ne-eqb _ 0 (λ y. t (d ∙ tile-word 4 ∙ y)), ← m, tile-part, h) refl
+        ∙ rw (ne-eqb _ 0 (λ y. s (w ∙ tile-word 3 ∙ y)), ne-eqb _ 0 (λ y. t (d ∙ tile-word 4 ∙ y)), ← m, tile-part, address, h) refl
 
 -- ---- the command at place p of a band that ends before place e
 
 -- no word is there
-pub no-command : (load : List ℕ) (now : ℕ) (ws : List ℕ) → ws ≡ [] → commandIn load now ws ≡ atCode 6
+pub no-command : (load : List ℕ) (now : ℕ) (ws : List ℕ) → ws ≡ [] → commandIn load now ws ≡ refused 6 0
 unfolding commandIn
 no-command load now ws e = ap (commandIn load now) e
 
@@ -293,7 +298,7 @@ none-to (suc n) code k h l e = go (decLt k n) (λ m. none-to n code k (h .0) m e
     go (no m) r = h .1 (omega arith)
 
 -- it is not any of the ten
-pub command-unknown : (load : List ℕ) (now code : ℕ) (args : List ℕ) → NoneTo 10 code → command load now code args ≡ atCode 7
+pub command-unknown : (load : List ℕ) (now code : ℕ) (args : List ℕ) → NoneTo 10 code → command load now code args ≡ refused 7 0
 unfolding command
 command-unknown load now code args h =
     rw (other 0 refl, other 1 refl, other 2 refl, other 3 refl, other 4 refl, other 5 refl, other 6 refl, other 7 refl, other 8 refl, other 9 refl) refl

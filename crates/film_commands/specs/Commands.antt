@@ -1,11 +1,12 @@
 -- The commands of a band, one by one: what each is, and how it is read from its words.
 use mathlib.Core.Path.{_≡_}
-use mathlib.Core.Bool.{Bool, cond, _||_}
+use mathlib.Core.Bool.{Bool, true, false, cond, _||_}
 use mathlib.Core.List.{List, [], _∷_}
 use mathlib.Core.Option.{Option, none, some}
 use Prim.Native.Nat.{ℕ, _+_}
 use lib.Dec.{leb, ltb, eqb}
 use lib.ListN.{length, take, drop}
+use Rattle.refusal.specs.Answers.{Answer, given, refused}
 use Rattle.film_words.specs.Words.{at, longAt}
 use Rattle.film_words.specs.Arrays.{arrayExtent}
 use Rattle.film_words.specs.Groups.{linesExtent, groupExtent}
@@ -19,12 +20,12 @@ pub data Mask : Type 0 where
   runs : (sMin : ℕ) → (group : List ℕ) → Mask
   samples : (sMin fMin : ℕ) → (array : List ℕ) → Mask
 
+-- a tile is opaque or transparent, and has its address in the load
 pub data Command : Type 0 where
   priority : ℕ → Command
   ink : Command
   clear : Command
-  opaque : (tile : List ℕ) → Command
-  transparent : (tile : List ℕ) → Command
+  setTile : (transparent : Bool) → (address : ℕ) → (words : List ℕ) → Command
   paint : Mask → Command
 
 -- where the words of a command's group, array or tile stand: so many words after the code word, or at an address of the load
@@ -33,49 +34,50 @@ pub data Source : Type 0 where
   inBand : (offset words : ℕ) → Source
   inLoad : (address words : ℕ) → Source
 
--- A command is taken whole, with its source and the number of words after its code word; or it is refused, with a number and the offset of its
--- place from the code word
-pub data Taken : Type 0 where
-  taken : Command → Source → (more : ℕ) → Taken
-  broken : (number offset : ℕ) → Taken
+-- a command that is taken whole, with its source and the number of words after its code word
+pub record Whole : Type 0 where
+  pub command : Command
+  pub source : Source
+  pub more : ℕ
+
+-- it is taken whole, or refused: the place of a refusal is counted from the code word
+abbrev pub Taken : Type 0
+Taken = Answer Whole
+
+abbrev pub taken : Command → Source → (more : ℕ) → Taken
+taken c src n = given (record { command = c; source = src; more = n })
 
 -- ---- how a command is read from the words after its code word, `args`, and the load's words after its count, `load`
 
--- every refusal of one command has its place at the code word
-abbrev pub atCode : ℕ → Taken
-atCode number = broken number 0
+-- a refusal, so many words after the code word
+abbrev pub refuseIf : Bool → (number offset : ℕ) → Taken → Taken
+refuseIf b number offset t = cond b (refused number offset) t
 
 -- 6 where fewer than the n words that are needed follow the code word
 abbrev pub needs : ℕ → List ℕ → Taken → Taken
-needs n args t = cond (leb n (length args)) t (atCode 6)
-
-abbrev pub refuseIf : Bool → ℕ → Taken → Taken
-refuseIf b number t = cond b (atCode number) t
+needs n args t = cond (leb n (length args)) t (refused 6 0)
 
 -- goes on with the n words of an array or group, or refuses where it runs past the end
 abbrev pub extended : ℕ → Option ℕ → (ℕ → Taken) → Taken
-extended number none k = atCode number
+extended number none k = refused number 0
 extended number (some n) k = k n
 
 -- 1: a long, high word at most 255; it may not fall below `least`, the band's priority so far
 unfoldable pub priorityFrom : ℕ → List ℕ → Taken
-priorityFrom least args = needs 2 args (refuseIf (ltb 255 (at args 1)) 8 (refuseIf (ltb (longAt args 0) least) 8 (taken (priority (longAt args 0)) nowhere 2)))
-
--- the tile command of one mode or the other
-abbrev pub tiled : Bool → List ℕ → Command
-tiled t tile = cond t (transparent tile) (opaque tile)
+priorityFrom least args =
+    needs 2 args (refuseIf (ltb 255 (at args 1)) 8 0 (refuseIf (ltb (longAt args 0) least) 8 0 (taken (priority (longAt args 0)) nowhere 2)))
 
 -- whether a side of a tile is 0
-abbrev pub sideless : List ℕ → Bool
-sideless tile = eqb (at tile 3) 0 || eqb (at tile 4) 0
+abbrev pub emptyTile : List ℕ → Bool
+emptyTile tile = eqb (at tile 3) 0 || eqb (at tile 4) 0
 
--- 4: 0 opaque or 1 transparent, long address; the tile may not run past the load, and no side of it is 0
+-- 4: 0 opaque or 1 transparent, long address. The tile may not run past the load, and no side of it is 0
 unfoldable pub tileFrom : List ℕ → List ℕ → Taken
 tileFrom load args =
-    let tile = drop (longAt args 1) load in
-    needs 3 args (refuseIf (ltb 1 (at args 0)) 8
-    (extended 9 (arrayExtent (drop 3 tile)) (λ n. refuseIf (sideless tile) 9
-    (taken (tiled (eqb (at args 0) 1) (take (3 + n) tile)) (inLoad (longAt args 1) (3 + n)) 3))))
+    let words = drop (longAt args 1) load in
+    needs 3 args (refuseIf (ltb 1 (at args 0)) 8 0
+    (extended 9 (arrayExtent (drop 3 words)) (λ n. refuseIf (emptyTile words) 9 0
+    (taken (setTile (eqb (at args 0) 1) (longAt args 1) (take (3 + n) words)) (inLoad (longAt args 1) (3 + n)) 3))))
 
 -- 5: sMin, sSize, fMin, fSize
 unfoldable pub rectangleFrom : List ℕ → Taken
@@ -84,7 +86,7 @@ rectangleFrom args = needs 4 args (taken (paint (rectangle (at args 0) (at args 
 -- 6: sMin, sSize, fMin, fSize, fMinLast, fSizeLast; sSize 1 is refused
 unfoldable pub trapezoidFrom : List ℕ → Taken
 trapezoidFrom args =
-    needs 6 args (refuseIf (eqb (at args 1) 1) 8
+    needs 6 args (refuseIf (eqb (at args 1) 1) 8 0
     (taken (paint (trapezoid (at args 0) (at args 1) (at args 2) (at args 3) (at args 4) (at args 5))) nowhere 6))
 
 -- 7: sMin, run group
@@ -124,11 +126,11 @@ command load least code args =
     (cond (eqb code 8) (loadRunsFrom load args)
     (cond (eqb code 9) (samplesFrom args)
     (cond (eqb code 10) (loadSamplesFrom load args)
-    (atCode 7))))))))))
+    (refused 7 0))))))))))
 
 -- the command at the beginning of the words of a band; 6 where there is no word
 unfoldable pub commandIn : List ℕ → ℕ → List ℕ → Taken
-commandIn load least [] = atCode 6
+commandIn load least [] = refused 6 0
 commandIn load least (code ∷ args) = command load least code args
 
 -- ---- worked cases
@@ -143,40 +145,44 @@ exampleTile = 1 ∷ 2 ∷ 3 ∷ 1 ∷ 4 ∷ 0xA000 ∷ []
 pub record CommandCases : Type 0 where
   pub priority-equal : commandIn [] 5 (1 ∷ 5 ∷ 0 ∷ 99 ∷ []) ≡ taken (priority 5) nowhere 2
   pub priority-low-word-first : commandIn [] 0 (1 ∷ 256 ∷ 255 ∷ []) ≡ taken (priority 0x00FF0100) nowhere 2
-  pub priority-high : commandIn [] 0 (1 ∷ 0 ∷ 256 ∷ []) ≡ broken 8 0
-  pub priority-falls : commandIn [] 5 (1 ∷ 4 ∷ 0 ∷ []) ≡ broken 8 0
-  pub priority-cut : commandIn [] 0 (1 ∷ 5 ∷ []) ≡ broken 6 0
+  pub priority-high : commandIn [] 0 (1 ∷ 0 ∷ 256 ∷ []) ≡ refused 8 0
+  pub priority-falls : commandIn [] 5 (1 ∷ 4 ∷ 0 ∷ []) ≡ refused 8 0
+  pub priority-cut : commandIn [] 0 (1 ∷ 5 ∷ []) ≡ refused 6 0
   pub ink-alone : commandIn [] 0 (2 ∷ []) ≡ taken ink nowhere 0
   pub clear-alone : commandIn [] 0 (3 ∷ []) ≡ taken clear nowhere 0
-  pub tile-opaque : commandIn exampleLoad 0 (4 ∷ 0 ∷ 0 ∷ 0 ∷ []) ≡ taken (opaque exampleTile) (inLoad 0 6) 3
-  pub tile-transparent : commandIn exampleLoad 0 (4 ∷ 1 ∷ 0 ∷ 0 ∷ []) ≡ taken (transparent exampleTile) (inLoad 0 6) 3
-  pub tile-cut-before-mode : commandIn exampleLoad 0 (4 ∷ 2 ∷ 0 ∷ []) ≡ broken 6 0
-  pub tile-mode : commandIn exampleLoad 0 (4 ∷ 2 ∷ 0 ∷ 0 ∷ []) ≡ broken 8 0
-  pub tile-past-load : commandIn [] 0 (4 ∷ 0 ∷ 0 ∷ 0 ∷ []) ≡ broken 9 0
-  pub tile-address-high : commandIn exampleLoad 0 (4 ∷ 0 ∷ 0 ∷ 1 ∷ []) ≡ broken 9 0
-  pub tile-no-lines : commandIn (0 ∷ 0 ∷ 0 ∷ 0 ∷ 1 ∷ []) 0 (4 ∷ 0 ∷ 0 ∷ 0 ∷ []) ≡ broken 9 0
-  pub tile-no-dots : commandIn (0 ∷ 0 ∷ 0 ∷ 1 ∷ 0 ∷ []) 0 (4 ∷ 0 ∷ 0 ∷ 0 ∷ []) ≡ broken 9 0
+  pub tile-opaque : commandIn exampleLoad 0 (4 ∷ 0 ∷ 0 ∷ 0 ∷ []) ≡ taken (setTile false 0 exampleTile) (inLoad 0 6) 3
+  pub tile-transparent : commandIn exampleLoad 0 (4 ∷ 1 ∷ 0 ∷ 0 ∷ []) ≡ taken (setTile true 0 exampleTile) (inLoad 0 6) 3
+  pub tile-cut-before-mode : commandIn exampleLoad 0 (4 ∷ 2 ∷ 0 ∷ []) ≡ refused 6 0
+  pub tile-mode : commandIn exampleLoad 0 (4 ∷ 2 ∷ 0 ∷ 0 ∷ []) ≡ refused 8 0
+  pub tile-past-load : commandIn [] 0 (4 ∷ 0 ∷ 0 ∷ 0 ∷ []) ≡ refused 9 0
+  pub tile-address-high : commandIn exampleLoad 0 (4 ∷ 0 ∷ 0 ∷ 1 ∷ []) ≡ refused 9 0
+  pub tile-no-lines : commandIn (7 ∷ 8 ∷ 9 ∷ 0 ∷ 1 ∷ 99 ∷ []) 0 (4 ∷ 0 ∷ 0 ∷ 0 ∷ []) ≡ refused 9 0
+  pub tile-no-dots : commandIn (7 ∷ 8 ∷ 9 ∷ 1 ∷ 0 ∷ 99 ∷ []) 0 (4 ∷ 0 ∷ 0 ∷ 0 ∷ []) ≡ refused 9 0
+  -- a tile of phase 0 at 0, 0, and one whose first three words are not its sizes; at address 1
+  pub tile-at-zero : commandIn (99 ∷ 0 ∷ 0 ∷ 0 ∷ 1 ∷ 4 ∷ 0xA000 ∷ []) 0 (4 ∷ 0 ∷ 1 ∷ 0 ∷ []) ≡ taken (setTile false 1 (0 ∷ 0 ∷ 0 ∷ 1 ∷ 4 ∷ 0xA000 ∷ [])) (inLoad 1 6) 3
+  pub tile-sizes : commandIn (99 ∷ 7 ∷ 8 ∷ 9 ∷ 2 ∷ 17 ∷ 1 ∷ 2 ∷ 3 ∷ 4 ∷ 99 ∷ []) 0 (4 ∷ 1 ∷ 1 ∷ 0 ∷ []) ≡ taken (setTile true 1 (7 ∷ 8 ∷ 9 ∷ 2 ∷ 17 ∷ 1 ∷ 2 ∷ 3 ∷ 4 ∷ [])) (inLoad 1 9) 3
+  pub tile-a-word-short : commandIn (7 ∷ 8 ∷ 9 ∷ 2 ∷ 17 ∷ 1 ∷ 2 ∷ 3 ∷ []) 0 (4 ∷ 1 ∷ 0 ∷ 0 ∷ []) ≡ refused 9 0
   pub rectangle-read : commandIn [] 0 (5 ∷ 1 ∷ 2 ∷ 3 ∷ 4 ∷ 99 ∷ []) ≡ taken (paint (rectangle 1 2 3 4)) nowhere 4
-  pub rectangle-cut : commandIn [] 0 (5 ∷ 1 ∷ 2 ∷ 3 ∷ []) ≡ broken 6 0
+  pub rectangle-cut : commandIn [] 0 (5 ∷ 1 ∷ 2 ∷ 3 ∷ []) ≡ refused 6 0
   pub trapezoid-read : commandIn [] 0 (6 ∷ 1 ∷ 2 ∷ 3 ∷ 4 ∷ 5 ∷ 6 ∷ []) ≡ taken (paint (trapezoid 1 2 3 4 5 6)) nowhere 6
-  pub trapezoid-cut : commandIn [] 0 (6 ∷ 1 ∷ 1 ∷ 3 ∷ 4 ∷ 5 ∷ []) ≡ broken 6 0
-  pub trapezoid-one-row : commandIn [] 0 (6 ∷ 1 ∷ 1 ∷ 3 ∷ 4 ∷ 5 ∷ 6 ∷ []) ≡ broken 8 0
+  pub trapezoid-cut : commandIn [] 0 (6 ∷ 1 ∷ 1 ∷ 3 ∷ 4 ∷ 5 ∷ []) ≡ refused 6 0
+  pub trapezoid-one-row : commandIn [] 0 (6 ∷ 1 ∷ 1 ∷ 3 ∷ 4 ∷ 5 ∷ 6 ∷ []) ≡ refused 8 0
   pub trapezoid-no-rows : commandIn [] 0 (6 ∷ 1 ∷ 0 ∷ 3 ∷ 4 ∷ 5 ∷ 6 ∷ []) ≡ taken (paint (trapezoid 1 0 3 4 5 6)) nowhere 6
   pub runs-read : commandIn [] 0 (7 ∷ 9 ∷ 1 ∷ 4 ∷ 0x8002 ∷ 99 ∷ []) ≡ taken (paint (runs 9 (1 ∷ 4 ∷ 0x8002 ∷ []))) (inBand 2 3) 4
-  pub runs-cut : commandIn [] 0 (7 ∷ 9 ∷ 1 ∷ 4 ∷ []) ≡ broken 6 0
-  pub runs-no-size : commandIn [] 0 (7 ∷ 9 ∷ []) ≡ broken 6 0
+  pub runs-cut : commandIn [] 0 (7 ∷ 9 ∷ 1 ∷ 4 ∷ []) ≡ refused 6 0
+  pub runs-no-size : commandIn [] 0 (7 ∷ 9 ∷ []) ≡ refused 6 0
   pub load-runs-read : commandIn exampleLoad 0 (8 ∷ 6 ∷ 0 ∷ 9 ∷ []) ≡ taken (paint (runs 9 (1 ∷ 4 ∷ 0x8002 ∷ []))) (inLoad 6 3) 3
-  pub load-runs-cut : commandIn exampleLoad 0 (8 ∷ 6 ∷ 0 ∷ []) ≡ broken 6 0
-  pub load-runs-past : commandIn exampleLoad 0 (8 ∷ 12 ∷ 0 ∷ 9 ∷ []) ≡ broken 9 0
+  pub load-runs-cut : commandIn exampleLoad 0 (8 ∷ 6 ∷ 0 ∷ []) ≡ refused 6 0
+  pub load-runs-past : commandIn exampleLoad 0 (8 ∷ 12 ∷ 0 ∷ 9 ∷ []) ≡ refused 9 0
   pub samples-read : commandIn [] 0 (9 ∷ 8 ∷ 7 ∷ 1 ∷ 4 ∷ 0xF000 ∷ 99 ∷ []) ≡ taken (paint (samples 8 7 (1 ∷ 4 ∷ 0xF000 ∷ []))) (inBand 3 3) 5
-  pub samples-cut : commandIn [] 0 (9 ∷ 8 ∷ 7 ∷ 1 ∷ 17 ∷ 0xF000 ∷ []) ≡ broken 6 0
+  pub samples-cut : commandIn [] 0 (9 ∷ 8 ∷ 7 ∷ 1 ∷ 17 ∷ 0xF000 ∷ []) ≡ refused 6 0
   pub load-samples-read : commandIn exampleLoad 0 (10 ∷ 9 ∷ 0 ∷ 8 ∷ 7 ∷ []) ≡ taken (paint (samples 8 7 (1 ∷ 4 ∷ 0xF000 ∷ []))) (inLoad 9 3) 4
-  pub load-samples-cut : commandIn exampleLoad 0 (10 ∷ 9 ∷ 0 ∷ 8 ∷ []) ≡ broken 6 0
-  pub load-samples-past : commandIn exampleLoad 0 (10 ∷ 10 ∷ 0 ∷ 8 ∷ 7 ∷ []) ≡ broken 9 0
-  pub unknown : commandIn [] 0 (11 ∷ []) ≡ broken 7 0
-  pub code-0 : commandIn [] 0 (0 ∷ []) ≡ broken 7 0
-  pub whole-word : commandIn [] 0 (0x0105 ∷ 1 ∷ 2 ∷ 3 ∷ 4 ∷ []) ≡ broken 7 0
-  pub no-word : commandIn [] 0 [] ≡ broken 6 0
+  pub load-samples-cut : commandIn exampleLoad 0 (10 ∷ 9 ∷ 0 ∷ 8 ∷ []) ≡ refused 6 0
+  pub load-samples-past : commandIn exampleLoad 0 (10 ∷ 10 ∷ 0 ∷ 8 ∷ 7 ∷ []) ≡ refused 9 0
+  pub unknown : commandIn [] 0 (11 ∷ []) ≡ refused 7 0
+  pub code-0 : commandIn [] 0 (0 ∷ []) ≡ refused 7 0
+  pub whole-word : commandIn [] 0 (0x0105 ∷ 1 ∷ 2 ∷ 3 ∷ 4 ∷ []) ≡ refused 7 0
+  pub no-word : commandIn [] 0 [] ≡ refused 6 0
 
 pub command-cases : CommandCases
 unfolding commandIn command priorityFrom tileFrom rectangleFrom trapezoidFrom runsFrom loadRunsFrom samplesFrom loadSamplesFrom arrayExtent linesExtent groupExtent

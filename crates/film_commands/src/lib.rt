@@ -8,25 +8,24 @@ ghost use Rattle.film_words.specs.Words.{words};
 ghost use Rattle.film_words.specs.Parts.{partOf};
 ghost use Rattle.film_words.specs.Load.{loadWords};
 ghost use Rattle.film_commands.specs.Commands.{priorityFrom, tileFrom, rectangleFrom, trapezoidFrom, runsFrom, loadRunsFrom, samplesFrom, loadSamplesFrom, commandIn};
-ghost use Rattle.film_commands.specs.Answers.{named, partFor, placed, told};
+ghost use Rattle.film_commands.specs.Code.{ofSource, partFor, placed, readAs, tilePart};
 use film_words::Extent;
 use film_words::array_extent;
 use film_words::group_extent;
 use film_words::long;
 use film_words::part;
 use film_words::word;
+use refusal::Refusal;
 
-// A command. `from` and `to` are places in the sheet, or in the load file for a tile and for what comes from the load: the tile, run group or
-// sample array stands in the words from `from` up to, not including, `to`.
-pub enum Command {
-    Priority(u32),
-    Ink,
-    Clear,
-    Tile {
-        transparent: bool,
-        from: usize,
-        to: usize,
-    },
+// Where the words of a run group or a sample array stand: in the load file or in the sheet, from place `from` up to, not including, `to`.
+pub struct Source {
+    pub load: bool,
+    pub from: usize,
+    pub to: usize,
+}
+
+// A mask: its numbers, and where the words of a group or an array stand.
+pub enum Mask {
     Rectangle {
         s_min: u16,
         s_size: u16,
@@ -43,32 +42,42 @@ pub enum Command {
     },
     Runs {
         s_min: u16,
-        from: usize,
-        to: usize,
-    },
-    LoadRuns {
-        s_min: u16,
-        from: usize,
-        to: usize,
+        source: Source,
     },
     Samples {
         s_min: u16,
         f_min: u16,
+        source: Source,
+    },
+}
+
+// A command. A tile stands in the load file from place `from` up to, not including, `to`.
+pub enum Command {
+    Priority(u32),
+    Ink,
+    Clear,
+    Tile {
+        transparent: bool,
         from: usize,
         to: usize,
     },
-    LoadSamples {
-        s_min: u16,
-        f_min: u16,
-        from: usize,
-        to: usize,
-    },
+    Paint(Mask),
 }
 
 // A whole command and the place after it, or a refusal's number and place.
 pub enum Read {
     Whole(Command, usize),
-    Refused(u8, usize),
+    Refused(Refusal),
+}
+
+// Ink is `Solid(true)`, clear is `Solid(false)`; a tile stands in the load file as in a command.
+pub enum Colour {
+    Solid(bool),
+    Tile {
+        transparent: bool,
+        from: usize,
+        to: usize,
+    },
 }
 
 // The refusals of one command, in their order: an unknown code; a command past its band; an argument that it may not have; a tile, group or
@@ -85,17 +94,26 @@ const BAD_LOAD: u8 = 9;
 
 fn read_priority(args: &[u8], p: usize, least: u32) -> Read
     requires { ⌜ p < 2 ^ 62 ⌝ }
-    ensures { λ r. ⌜ ((s l : List ℕ) → told s l r ≡ placed p (priorityFrom least (words (now (args .entry))))) ⌝ }
+    ensures { λ r. ⌜ ((s l : List ℕ) → readAs s l r ≡ placed p (priorityFrom least (words (now (args .entry))))) ⌝ }
 {
     if args.len() / 2 < 2 {
-        return Read::Refused(CUT, p);
+        return Read::Refused(Refusal {
+            number: CUT,
+            place: p,
+        });
     }
     if word(args, 1) > 255 {
-        return Read::Refused(BAD_ARGUMENT, p);
+        return Read::Refused(Refusal {
+            number: BAD_ARGUMENT,
+            place: p,
+        });
     }
     let value = long(args, 0);
     if value < least {
-        return Read::Refused(BAD_ARGUMENT, p);
+        return Read::Refused(Refusal {
+            number: BAD_ARGUMENT,
+            place: p,
+        });
     }
     Read::Whole(Command::Priority(value), p + 3)
 }
@@ -103,25 +121,40 @@ fn read_priority(args: &[u8], p: usize, least: u32) -> Read
 // Addresses of the load count after its two count words, here and in the two other readers from the load.
 fn read_tile(args: &[u8], load: &[u8], p: usize) -> Read
     requires { ⌜ p < 2 ^ 62 ⌝ }
-    ensures { λ r. ⌜ ((s : List ℕ) → told s (now (load .entry)) r ≡ placed p (tileFrom (loadWords (now (load .entry))) (words (now (args .entry))))) ⌝ }
+    ensures { λ r. ⌜ ((s : List ℕ) → readAs s (now (load .entry)) r ≡ placed p (tileFrom (loadWords (now (load .entry))) (words (now (args .entry))))) ⌝ }
 {
     if args.len() / 2 < 3 {
-        return Read::Refused(CUT, p);
+        return Read::Refused(Refusal {
+            number: CUT,
+            place: p,
+        });
     }
     let mode = word(args, 0);
     if mode > 1 {
-        return Read::Refused(BAD_ARGUMENT, p);
+        return Read::Refused(Refusal {
+            number: BAD_ARGUMENT,
+            place: p,
+        });
     }
     let from = 2 + long(args, 1) as usize;
     let r = array_extent(load, from + 3);
     let Extent::Words(n) = r else {
-        return Read::Refused(BAD_LOAD, p);
+        return Read::Refused(Refusal {
+            number: BAD_LOAD,
+            place: p,
+        });
     };
     if word(load, from + 3) == 0 {
-        return Read::Refused(BAD_LOAD, p);
+        return Read::Refused(Refusal {
+            number: BAD_LOAD,
+            place: p,
+        });
     }
     if word(load, from + 4) == 0 {
-        return Read::Refused(BAD_LOAD, p);
+        return Read::Refused(Refusal {
+            number: BAD_LOAD,
+            place: p,
+        });
     }
     Read::Whole(
         Command::Tile {
@@ -135,42 +168,51 @@ fn read_tile(args: &[u8], load: &[u8], p: usize) -> Read
 
 fn read_rectangle(args: &[u8], p: usize) -> Read
     requires { ⌜ p < 2 ^ 62 ⌝ }
-    ensures { λ r. ⌜ ((s l : List ℕ) → told s l r ≡ placed p (rectangleFrom (words (now (args .entry))))) ⌝ }
+    ensures { λ r. ⌜ ((s l : List ℕ) → readAs s l r ≡ placed p (rectangleFrom (words (now (args .entry))))) ⌝ }
 {
     if args.len() / 2 < 4 {
-        return Read::Refused(CUT, p);
+        return Read::Refused(Refusal {
+            number: CUT,
+            place: p,
+        });
     }
     Read::Whole(
-        Command::Rectangle {
+        Command::Paint(Mask::Rectangle {
             s_min: word(args, 0),
             s_size: word(args, 1),
             f_min: word(args, 2),
             f_size: word(args, 3),
-        },
+        }),
         p + 5,
     )
 }
 
 fn read_trapezoid(args: &[u8], p: usize) -> Read
     requires { ⌜ p < 2 ^ 62 ⌝ }
-    ensures { λ r. ⌜ ((s l : List ℕ) → told s l r ≡ placed p (trapezoidFrom (words (now (args .entry))))) ⌝ }
+    ensures { λ r. ⌜ ((s l : List ℕ) → readAs s l r ≡ placed p (trapezoidFrom (words (now (args .entry))))) ⌝ }
 {
     if args.len() / 2 < 6 {
-        return Read::Refused(CUT, p);
+        return Read::Refused(Refusal {
+            number: CUT,
+            place: p,
+        });
     }
     let s_size = word(args, 1);
     if s_size == 1 {
-        return Read::Refused(BAD_ARGUMENT, p);
+        return Read::Refused(Refusal {
+            number: BAD_ARGUMENT,
+            place: p,
+        });
     }
     Read::Whole(
-        Command::Trapezoid {
+        Command::Paint(Mask::Trapezoid {
             s_min: word(args, 0),
             s_size,
             f_min: word(args, 2),
             f_size: word(args, 3),
             f_min_last: word(args, 4),
             f_size_last: word(args, 5),
-        },
+        }),
         p + 7,
     )
 }
@@ -178,42 +220,57 @@ fn read_trapezoid(args: &[u8], p: usize) -> Read
 // The group stands two words after the code word, in the sheet of which `args` is the part from place p + 1 up to `end`.
 fn read_runs(sheet: &[u8], args: &[u8], p: usize, end: usize) -> Read
     requires { ⌜ (p < end) × (end ≤ length (words (now sheet))) × (now args ≡ partOf (now sheet) (p + 1) end) ⌝ }
-    ensures { λ r. ⌜ ((l : List ℕ) → told (now (sheet .entry)) l r ≡ placed p (runsFrom (words (now (args .entry))))) ⌝ }
+    ensures { λ r. ⌜ ((l : List ℕ) → readAs (now (sheet .entry)) l r ≡ placed p (runsFrom (words (now (args .entry))))) ⌝ }
 {
     let r = group_extent(args, 1);
     let Extent::Words(n) = r else {
-        return Read::Refused(CUT, p);
+        return Read::Refused(Refusal {
+            number: CUT,
+            place: p,
+        });
     };
     let from = p + 2;
     let to = from + n;
     Read::Whole(
-        Command::Runs {
+        Command::Paint(Mask::Runs {
             s_min: word(args, 0),
-            from,
-            to,
-        },
+            source: Source {
+                load: false,
+                from,
+                to,
+            },
+        }),
         to,
     )
 }
 
 fn read_load_runs(args: &[u8], load: &[u8], p: usize) -> Read
     requires { ⌜ p < 2 ^ 62 ⌝ }
-    ensures { λ r. ⌜ ((s : List ℕ) → told s (now (load .entry)) r ≡ placed p (loadRunsFrom (loadWords (now (load .entry))) (words (now (args .entry))))) ⌝ }
+    ensures { λ r. ⌜ ((s : List ℕ) → readAs s (now (load .entry)) r ≡ placed p (loadRunsFrom (loadWords (now (load .entry))) (words (now (args .entry))))) ⌝ }
 {
     if args.len() / 2 < 3 {
-        return Read::Refused(CUT, p);
+        return Read::Refused(Refusal {
+            number: CUT,
+            place: p,
+        });
     }
     let from = 2 + long(args, 0) as usize;
     let r = group_extent(load, from);
     let Extent::Words(n) = r else {
-        return Read::Refused(BAD_LOAD, p);
+        return Read::Refused(Refusal {
+            number: BAD_LOAD,
+            place: p,
+        });
     };
     Read::Whole(
-        Command::LoadRuns {
+        Command::Paint(Mask::Runs {
             s_min: word(args, 2),
-            from,
-            to: from + n,
-        },
+            source: Source {
+                load: true,
+                from,
+                to: from + n,
+            },
+        }),
         p + 4,
     )
 }
@@ -221,44 +278,59 @@ fn read_load_runs(args: &[u8], load: &[u8], p: usize) -> Read
 // The array stands three words after the code word.
 fn read_samples(sheet: &[u8], args: &[u8], p: usize, end: usize) -> Read
     requires { ⌜ (p < end) × (end ≤ length (words (now sheet))) × (now args ≡ partOf (now sheet) (p + 1) end) ⌝ }
-    ensures { λ r. ⌜ ((l : List ℕ) → told (now (sheet .entry)) l r ≡ placed p (samplesFrom (words (now (args .entry))))) ⌝ }
+    ensures { λ r. ⌜ ((l : List ℕ) → readAs (now (sheet .entry)) l r ≡ placed p (samplesFrom (words (now (args .entry))))) ⌝ }
 {
     let r = array_extent(args, 2);
     let Extent::Words(n) = r else {
-        return Read::Refused(CUT, p);
+        return Read::Refused(Refusal {
+            number: CUT,
+            place: p,
+        });
     };
     let from = p + 3;
     let to = from + n;
     Read::Whole(
-        Command::Samples {
+        Command::Paint(Mask::Samples {
             s_min: word(args, 0),
             f_min: word(args, 1),
-            from,
-            to,
-        },
+            source: Source {
+                load: false,
+                from,
+                to,
+            },
+        }),
         to,
     )
 }
 
 fn read_load_samples(args: &[u8], load: &[u8], p: usize) -> Read
     requires { ⌜ p < 2 ^ 62 ⌝ }
-    ensures { λ r. ⌜ ((s : List ℕ) → told s (now (load .entry)) r ≡ placed p (loadSamplesFrom (loadWords (now (load .entry))) (words (now (args .entry))))) ⌝ }
+    ensures { λ r. ⌜ ((s : List ℕ) → readAs s (now (load .entry)) r ≡ placed p (loadSamplesFrom (loadWords (now (load .entry))) (words (now (args .entry))))) ⌝ }
 {
     if args.len() / 2 < 4 {
-        return Read::Refused(CUT, p);
+        return Read::Refused(Refusal {
+            number: CUT,
+            place: p,
+        });
     }
     let from = 2 + long(args, 0) as usize;
     let r = array_extent(load, from);
     let Extent::Words(n) = r else {
-        return Read::Refused(BAD_LOAD, p);
+        return Read::Refused(Refusal {
+            number: BAD_LOAD,
+            place: p,
+        });
     };
     Read::Whole(
-        Command::LoadSamples {
+        Command::Paint(Mask::Samples {
             s_min: word(args, 2),
             f_min: word(args, 3),
-            from,
-            to: from + n,
-        },
+            source: Source {
+                load: true,
+                from,
+                to: from + n,
+            },
+        }),
         p + 5,
     )
 }
@@ -266,13 +338,19 @@ fn read_load_samples(args: &[u8], load: &[u8], p: usize) -> Read
 // The command at place p of a band that ends before place `end`, where the band's priority so far is `least`. Where the sheet has not all words
 // from p up to `end`, or there are none, no command is there, and 6 is given at p.
 pub fn read_command(sheet: &[u8], load: &[u8], p: usize, end: usize, least: u32) -> Read
-    ensures { λ r. ⌜ told (now (sheet .entry)) (now (load .entry)) r ≡ placed p (commandIn (loadWords (now (load .entry))) least (words (partOf (now (sheet .entry)) p end))) ⌝ }
+    ensures { λ r. ⌜ readAs (now (sheet .entry)) (now (load .entry)) r ≡ placed p (commandIn (loadWords (now (load .entry))) least (words (partOf (now (sheet .entry)) p end))) ⌝ }
 {
     if end > sheet.len() / 2 {
-        return Read::Refused(CUT, p);
+        return Read::Refused(Refusal {
+            number: CUT,
+            place: p,
+        });
     }
     if p >= end {
-        return Read::Refused(CUT, p);
+        return Read::Refused(Refusal {
+            number: CUT,
+            place: p,
+        });
     }
     let args = part(sheet, p + 1, end);
     match word(sheet, p) {
@@ -286,21 +364,32 @@ pub fn read_command(sheet: &[u8], load: &[u8], p: usize, end: usize, least: u32)
         8 => read_load_runs(args, load, p),
         9 => read_samples(sheet, args, p, end),
         10 => read_load_samples(args, load, p),
-        _ => Read::Refused(UNKNOWN_CODE, p),
+        _ => Read::Refused(Refusal {
+            number: UNKNOWN_CODE,
+            place: p,
+        }),
     }
 }
 
-// The words that a command names, uncopied: a part of the sheet, or of the load for a tile and for what comes from the load. Empty where it
-// names none, or its range is not in the file.
-pub fn mask_words<'a>(sheet: &'a [u8], load: &'a [u8], c: Command) -> &'a [u8]
-    ensures { λ r. ⌜ now r ≡ partFor (now (sheet .entry)) (now (load .entry)) (named c) ⌝ }
+// The words of a run group or a sample array, uncopied: a part of the load file or of the sheet. Empty where its range is not in the file.
+pub fn source_words<'a>(sheet: &'a [u8], load: &'a [u8], source: Source) -> &'a [u8]
+    ensures { λ r. ⌜ now r ≡ partFor (now (sheet .entry)) (now (load .entry)) (ofSource source) ⌝ }
 {
-    match c {
-        Command::Tile { from, to, .. } => part(load, from, to),
-        Command::Runs { from, to, .. } => part(sheet, from, to),
-        Command::LoadRuns { from, to, .. } => part(load, from, to),
-        Command::Samples { from, to, .. } => part(sheet, from, to),
-        Command::LoadSamples { from, to, .. } => part(load, from, to),
-        _ => &sheet[0..0],
+    let from = source.from;
+    let to = source.to;
+    if source.load {
+        part(load, from, to)
+    } else {
+        part(sheet, from, to)
+    }
+}
+
+// The words of the colour's tile, uncopied: a part of the load file; none where it is no tile.
+pub fn tile_words(load: &[u8], colour: Colour) -> &[u8]
+    ensures { λ r. ⌜ now r ≡ tilePart (now (load .entry)) colour ⌝ }
+{
+    match colour {
+        Colour::Tile { from, to, .. } => part(load, from, to),
+        _ => &load[0..0],
     }
 }

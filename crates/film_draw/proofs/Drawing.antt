@@ -1,37 +1,40 @@
--- Laws of the draw of one band: its lines, and its answer and buffer by what was read. Assumes nothing.
-use mathlib.Core.Path.{_≡_, refl, sym, ap, ap₂, _∙_}
+-- Laws of the draw of one band: its frame, its answer and buffer, and the draw's promise. Assumes nothing.
+use mathlib.Core.Path.{_≡_, refl, sym, ap, ap₂, subst, _∙_}
 use mathlib.Core.List.{List, _++_}
-use Prim.Native.Nat.{ℕ, _+_, _*_, _-_, _<_, _≤_, min}
+use Prim.Native.Nat.{ℕ, _*_, _-_, _<_, _≤_, min}
 use native.Mathlib.Omega.{arith}
+use borrow.Author.Tests.{lt-ltb, le-ltb}
+use lib.Dec.{ltb}
 use lib.ListN.{length, take, drop}
 use lib.Seq.{take-append-seam}
+use Rattle.refusal.specs.Answers.{Answer, given, refused, andThen, Verdict, fine}
+use Rattle.refusal.specs.Code.{refusedAs}
+use Rattle.refusal.specs.declared.Refusal.{Refusal}
 use Rattle.row.specs.Counts.{onesOf, joined}
 use Rattle.film_words.specs.Words.{words}
-use Rattle.film_words.specs.Parts.{partOf}
 use Rattle.film_words.specs.Load.{loadWords}
-use Rattle.film_commands.specs.Band.{Reading, read, refusedAt}
-use Rattle.film_herald.specs.Herald.{heraldOf, bandCount, bandStart, bandRows, rowLength}
-use Rattle.film_herald.specs.Refusals.{fine, front}
-use Rattle.film_herald.specs.Refusals as refusals
-use Rattle.film_check.specs.Layout.{layoutOf, bandIndex, Reached, found, stopped, nowhere, reach}
-use Rattle.film_check.specs.Check.{reading, bandVerdict}
-use Rattle.film_herald.proofs.Herald.{begins}
+use Rattle.film_commands.specs.Band.{Stroke}
+use Rattle.film_herald.specs.Herald.{Herald, heraldOf, pageCount, bandCount, bandStart, bandRows, rowLength, wholeFilm, bandBytes}
+use Rattle.film_herald.specs.Refusals.{Line, first, heraldTable, heraldTest}
+use Rattle.film_herald.proofs.Refusals.{first-yes, first-no, first-last, first-append, herald-fine}
+use Rattle.film_herald.proofs.Herald.{begins, few-bytes}
+use Rattle.film_layout.specs.Layout.{Layout, layoutOf, Page, reachPage, reach}
 use Rattle.film_imaging.specs.Pictures.{rowsOf}
-use Rattle.film_drawing.specs.Picture.{commandsRead}
-use Rattle.film_drawing.specs.Draw.{DrawAnswer, refused, drawRows, drawReached, drawAnswer, bufferAfter}
-use Rattle.film_drawing.specs.Promise.{done, refusal, told, due, Promised}
-use Rattle.film_draw.specs.Functions.{AllRead}
-use Rattle.film_drawing.specs.Demand3.{Has, sizeOf}
+use Rattle.film_paint.specs.Rows.{windowOf}
+use Rattle.film_paint.specs.declared.Frame.{Frame}
+use Rattle.film_drawing.specs.Draw.{DrawAnswer, drawTable, drawnRows, drawRows, drawAnswer, bufferAfter}
+use Rattle.film_drawing.specs.Promise.{done, due, DrawPromised}
 use Rattle.film_drawing.specs.declared.Drawn.{Drawn}
-use Rattle.film_drawing.specs.declared.Drawn.the-variants.{Refused}
+use Rattle.film_drawing.specs.declared.Drawn.the-variants.{Done, Refused}
 use Rattle.film_drawing.proofs.Rows.{length-rows}
-use Rattle.film_drawing.proofs.Answers.{answer-reached}
+use Rattle.film_draw.specs.Functions.{Fits, FrameOf, inkedWith, drawnBy, Answered}
 
--- ---- a band's lines
+-- ---- a band's frame
 
 -- the lines as the code works them out: n of the page and m of a whole band, r of band b
 module _ (sheet : List ℕ) (b n m : ℕ) (z : 0 < heraldOf (words sheet) .bandSSize) (l : b < bandCount (heraldOf (words sheet)))
     (en : n ≡ heraldOf (words sheet) .imageSSize) (em : m ≡ heraldOf (words sheet) .bandSSize) where
+  -- its first line is on the page
   pub first-line : m * b < n
   first-line = rw (en, em) (begins (heraldOf (words sheet)) b z l)
 
@@ -41,79 +44,137 @@ module _ (sheet : List ℕ) (b n m : ℕ) (z : 0 < heraldOf (words sheet) .bandS
   pub rows-are : (r : ℕ) → r ≡ min m (n - m * b) → r ≡ bandRows (heraldOf (words sheet)) b
   rows-are r e = e ∙ ap₂ (λ (x y : ℕ). min x (y - x * b)) em en
 
--- ---- its answer and buffer
+-- the bytes of its rows, of w bytes each
+pub size-is : {sheet : List ℕ} {b : ℕ} {frame : Frame} (w : ℕ) → FrameOf sheet b frame → w ≡ rowLength (frame .width)
+    → frame .rows * w ≡ bandBytes (heraldOf (words sheet)) (wholeFilm (heraldOf (words sheet))) b
+size-is w f e = ap₂ _*_ (f .rows-is) (e ∙ ap (λ (x : ℕ). rowLength x) (f .width-is))
+
+-- where the herald is fine they lie in a buffer that is not too short, and are few
+pub frame-fits : {sheet : List ℕ} {b : ℕ} {frame : Frame} (load held : List ℕ) → FrameOf sheet b frame → heraldTest sheet load ≡ fine
+    → bandBytes (heraldOf (words sheet)) (wholeFilm (heraldOf (words sheet))) b ≤ length held
+    → Fits held frame × (frame .rows * rowLength (frame .width) ≤ 65536)
+frame-fits {sheet} {b} {frame} load held f t h =
+    let s = size-is (rowLength (frame .width)) f refl in
+    ((omega (arith, f .width-is, herald-fine sheet load t .dots-low), omega arith), omega (arith, few-bytes sheet load b t))
 
 -- the rows, of w bytes each, lie in the buffer as it came back
-pub within-rows : (rows width w : ℕ) (buf buf′ : List ℕ) → w ≡ rowLength width → length buf′ ≡ length buf
-    → rows * rowLength width ≤ length buf → rows * rowLength width ≤ 65536 → (rows * w ≤ length buf′) × (rows * w ≤ 65536)
-within-rows rows width w buf buf′ e l h m = rw (e, l) (h, m)
+pub within-rows : (frame : Frame) (w : ℕ) (buf buf′ : List ℕ) → w ≡ rowLength (frame .width) → length buf′ ≡ length buf → Fits buf frame
+    → frame .rows * rowLength (frame .width) ≤ 65536 → (frame .rows * w ≤ length buf′) × (frame .rows * w ≤ 65536)
+within-rows frame w buf buf′ e l h m = rw (e, l) (h .1, m)
 
--- commands that are all fine were all read
-pub all-read : (from : ℕ) (x : Reading) → fine ≡ bandVerdict from x → AllRead x
-all-read from (read cs) e = refl
-all-read from (refusedAt n i) e = let z : _≡_ {A = ℕ} 0 1 = cc in absurd (omega arith)
+-- ---- answers
 
-module _ (width first rows from : ℕ) where
-  -- one of them is refused
-  pub band-refused : (x : Reading) (n p : ℕ) (buf : List ℕ) → refusals.refused n p ≡ bandVerdict from x
-      → (refusal n p ≡ due (drawRows width first rows from x)) × (buf ≡ bufferAfter (drawRows width first rows from x) buf)
-  unfolding bufferAfter
-  band-refused (read cs) n p buf e = let z : _≡_ {A = ℕ} 0 1 = cc in absurd (omega arith)
-  band-refused (refusedAt m i) n p buf e = let number : n ≡ m = cc in let place : p ≡ from + i = cc in (ap₂ refusal number place, refl)
+-- a refusal is handed on, and the buffer stays
+pub handed-on : {A : Type 0} {t : Answer A} (k : A → DrawAnswer) (x : Refusal) (held : List ℕ) → refusedAs x ≡ t
+    → Answered (andThen t k) held (Refused x) held
+unfolding bufferAfter
+handed-on {A} k x held e =
+    record { answer-is = ap (λ (y : Answer A). due (andThen y k)) e; left-is = ap (λ (y : Answer A). bufferAfter (andThen y k) held) e }
 
-  -- all of them are carried out, and the ones of the rows counted
-  pub band-drawn : (x : Reading) (buf buf′ : List ℕ) (dots : ℕ) → fine ≡ bandVerdict from x
-      → buf′ ≡ joined (rowsOf width first rows (commandsRead x)) ++ drop (rows * rowLength width) buf
-      → dots ≡ onesOf (take (rows * rowLength width) buf′)
-      → (done rows dots ≡ due (drawRows width first rows from x)) × (buf′ ≡ bufferAfter (drawRows width first rows from x) buf)
-  unfolding bufferAfter
-  band-drawn (refusedAt n i) buf buf′ dots e o d = let z : _≡_ {A = ℕ} 0 1 = cc in absurd (omega arith)
-  band-drawn (read cs) buf buf′ dots e o d =
-      let bytes = joined (rowsOf width first rows cs) in
-      let size : rows * rowLength width ≡ length bytes = sym (length-rows width first rows cs) in
-      let held : take (rows * rowLength width) buf′ ≡ bytes =
-      ap₂ (λ (n : ℕ) (r : List ℕ). take n r) size o ∙ take-append-seam bytes (drop (rows * rowLength width) buf) in
-      (ap (done rows) (d ∙ ap onesOf held), o ∙ ap (λ (n : ℕ). bytes ++ drop n buf) size)
+-- what was given is gone on with
+pub gone-on : {A : Type 0} {t : Answer A} (k : A → DrawAnswer) (a : A) {held : List ℕ} {r : Drawn} {left : List ℕ} → given a ≡ t
+    → Answered (k a) held r left → Answered (andThen t k) held r left
+gone-on {A} k a {held} {r} {left} e g = subst (λ (y : Answer A). Answered (andThen y k) held r left) e g
+
+-- the strokes are carried out, and the ones of the rows counted
+pub rows-drawn : (frame : Frame) (ks : List Stroke) (held buf : List ℕ) (w dots : ℕ) → buf ≡ inkedWith frame ks held → w ≡ rowLength (frame .width)
+    → dots ≡ onesOf (take (frame .rows * w) buf)
+    → Answered (drawnRows (frame .rows) (joined (rowsOf (windowOf frame) (frame .top) (frame .rows) ks))) held (Done (frame .rows) dots) buf
+unfolding bufferAfter
+rows-drawn frame ks held buf w dots o e d =
+    let bytes = joined (rowsOf (windowOf frame) (frame .top) (frame .rows) ks) in
+    let n = frame .rows * rowLength (frame .width) in
+    let size : n ≡ length bytes = sym (length-rows (windowOf frame) (frame .top) (frame .rows) ks) in
+    let rows : take (frame .rows * w) buf ≡ bytes =
+    ap₂ (λ (k : ℕ) (r : List ℕ). take k r) (ap (λ (k : ℕ). frame .rows * k) e ∙ size) o ∙ take-append-seam bytes (drop n held) in
+    record { answer-is = ap (done (frame .rows)) (d ∙ ap onesOf rows); left-is = o ∙ ap (λ (k : ℕ). bytes ++ drop k held) size }
 
 -- ---- the draw's promise
 
--- a refusal is kept, and the buffer stays
-pub promised-refusal : (sheet load : List ℕ) (page b n p : ℕ) (held : List ℕ) → drawAnswer sheet load page b (length held) ≡ refused n p
-    → Promised sheet load page b held (Refused n p) held
-unfolding bufferAfter
-promised-refusal sheet load page b n p held e = record { answer-is = sym (ap due e); left-is = sym (ap (λ (a : DrawAnswer). bufferAfter a held) e) }
+-- one after another
+then-then : {A B C : Type 0} (t : Answer A) (k : A → Answer B) (l : B → Answer C) → andThen (andThen t k) l ≡ andThen t (λ a. andThen (k a) l)
+then-then (given a) k l = refl
+then-then (refused n p) k l = refl
 
--- none of the refusals before the walk comes: k is the band's number among all
-pub record Walks (sheet load : List ℕ) (page b : ℕ) (held : List ℕ) (k : ℕ) : Type 0 where
-  pub front-is : front sheet load ≡ fine
-  pub has : Has sheet page b
-  pub room : sizeOf sheet b ≤ length held
-  pub number : k ≡ bandIndex (words sheet) page b
+module _ (sheet load : List ℕ) (page b : ℕ) (held : List ℕ) where
+  abbrev h : Herald
+  h = heraldOf (words sheet)
 
-module _ {sheet load : List ℕ} {page b : ℕ} {held : List ℕ} {k : ℕ} (w : Walks sheet load page b held k) where
-  abbrev met : Reached
-  met = reach k (layoutOf (words sheet))
+  -- the draw's own table
+  abbrev own : List Line
+  own = drawTable h (pageCount (words sheet)) page b (length held)
 
-  answer-met : (x : Reached) → x ≡ met → drawAnswer sheet load page b (length held) ≡ drawReached (heraldOf (words sheet)) (loadWords load) b x
-  answer-met x e =
-      answer-reached sheet load (w .front-is) page b (length held) (w .has) (w .room)
-      ∙ ap (drawReached (heraldOf (words sheet)) (loadWords load) b) (sym (e ∙ ap (λ (i : ℕ). reach i (layoutOf (words sheet))) (w .number)))
+  -- on a page that was reached
+  abbrev onPage : Page → DrawAnswer
+  onPage q = andThen (reach b (q .bands)) (λ x. drawRows (q .window) (bandStart h b) (bandRows h b) (loadWords load) x)
 
-  -- a count on the way is wrong or missing
-  pub promised-stop : (n p : ℕ) → stopped n p ≡ met → Promised sheet load page b held (Refused n p) held
-  promised-stop n p e = promised-refusal sheet load page b n p held (answer-met (stopped n p) e)
+  -- the walk
+  abbrev walked : DrawAnswer
+  walked = andThen (reachPage page (layoutOf (words sheet))) onPage
 
-  -- the pages end
-  pub promised-nowhere : nowhere ≡ met → Promised sheet load page b held (Refused 11 0) held
-  promised-nowhere e = promised-refusal sheet load page b 11 0 held (answer-met nowhere e)
+  -- the answer: the herald's table, the draw's own, and the walk
+  answer : drawAnswer sheet load page b (length held) ≡ andThen (heraldTest sheet load) (λ u. andThen (first own) (λ v. walked))
+  unfolding drawAnswer heraldTest
+  answer =
+      ap (λ (v : Verdict). andThen v (λ u. walked)) (first-append (heraldTable sheet load) own)
+      ∙ then-then (first (heraldTable sheet load)) (λ u. first own) (λ u. walked)
 
-  -- the band is found
-  pub promised-found : (from end width first rows : ℕ) (r : Drawn) (left : List ℕ) → found from (words (partOf sheet from end)) ≡ met
-      → width ≡ heraldOf (words sheet) .imageFSize → first ≡ bandStart (heraldOf (words sheet)) b → rows ≡ bandRows (heraldOf (words sheet)) b
-      → told r ≡ due (drawRows width first rows from (reading sheet load from end))
-      → left ≡ bufferAfter (drawRows width first rows from (reading sheet load from end)) held
-      → Promised sheet load page b held r left
-  promised-found from end width first rows r left e ew ef er a l =
-      let x = reading sheet load from end in
-      let is : drawRows width first rows from x ≡ drawAnswer sheet load page b (length held) = rw (ew, ef, er) (sym (answer-met (found from (words (partOf sheet from end))) e)) in
-      record { answer-is = a ∙ ap due is; left-is = l ∙ ap (λ (y : DrawAnswer). bufferAfter y held) is }
+  promised : {r : Drawn} {left : List ℕ} → Answered (andThen (heraldTest sheet load) (λ u. andThen (first own) (λ v. walked))) held r left
+      → DrawPromised sheet load page b held r left
+  promised g =
+      record {
+        answer-is = g .answer-is ∙ sym (ap due answer);
+        left-is = g .left-is ∙ sym (ap (λ (a : DrawAnswer). bufferAfter a held) answer);
+      }
+
+  -- the herald is refused
+  pub promised-herald : (x : Refusal) → refusedAs x ≡ heraldTest sheet load → DrawPromised sheet load page b held (Refused x) held
+  promised-herald x e = promised (handed-on (λ u. andThen (first own) (λ v. walked)) x held e)
+
+  module _ (f : heraldTest sheet load ≡ fine) where
+    -- the draw's own table refuses
+    own-refused : (x : Refusal) → first own ≡ refusedAs x → DrawPromised sheet load page b held (Refused x) held
+    own-refused x e = promised (gone-on (λ u. andThen (first own) (λ v. walked)) tt (sym f) (handed-on (λ v. walked) x held (sym e)))
+
+    -- no such page
+    pub promised-no-page : pageCount (words sheet) ≤ page → DrawPromised sheet load page b held (Refused (record { number = 11; place = 0 })) held
+    unfolding drawTable
+    promised-no-page l = own-refused _ (first-yes _ _ (rw (le-ltb page (pageCount (words sheet)) l) refl))
+
+    module _ (p : page < pageCount (words sheet)) where
+      -- no such band
+      pub promised-no-band : bandCount h ≤ b → DrawPromised sheet load page b held (Refused (record { number = 11; place = 0 })) held
+      unfolding drawTable
+      promised-no-band l = own-refused _ (first-yes _ _ (rw (lt-ltb page (pageCount (words sheet)) p, le-ltb b (bandCount h) l) refl))
+
+      module _ (q : b < bandCount h) where
+        -- the first line of the draw's own table holds not
+        there : first own ≡ first (drop 1 own)
+        unfolding drawTable
+        there = first-no _ _ (rw (lt-ltb page (pageCount (words sheet)) p, lt-ltb b (bandCount h) q) refl)
+
+        -- the buffer is too short
+        pub promised-short : length held < bandBytes h (wholeFilm h) b → DrawPromised sheet load page b held (Refused (record { number = 12; place = 0 })) held
+        unfolding drawTable
+        promised-short l = own-refused _ (there ∙ first-yes _ _ (lt-ltb (length held) (bandBytes h (wholeFilm h) b) l))
+
+        module _ (room : bandBytes h (wholeFilm h) b ≤ length held) where
+          -- nothing is refused before the walk
+          to-walk : {r : Drawn} {left : List ℕ} → Answered walked held r left → DrawPromised sheet load page b held r left
+          unfolding drawTable
+          to-walk g =
+              promised
+              (gone-on (λ u. andThen (first own) (λ v. walked)) tt (sym f)
+              (gone-on (λ v. walked) tt (sym (there ∙ first-last _ (le-ltb (length held) (bandBytes h (wholeFilm h) b) room))) g))
+
+          -- a count before the page is wrong or missing
+          pub promised-stop : (x : Refusal) → refusedAs x ≡ reachPage page (layoutOf (words sheet)) → DrawPromised sheet load page b held (Refused x) held
+          promised-stop x e = to-walk (handed-on onPage x held e)
+
+          -- the page is reached
+          pub promised-page : (bands : Layout) {frame : Frame} {r : Drawn} {left : List ℕ} → FrameOf sheet b frame
+              → given (record { window = wholeFilm h; bands = bands }) ≡ reachPage page (layoutOf (words sheet))
+              → Answered (andThen (reach b bands) (drawnBy frame load)) held r left
+              → DrawPromised sheet load page b held r left
+          promised-page bands o e g =
+              to-walk (gone-on onPage (record { window = wholeFilm h; bands = bands }) e (rw (o .top-is, o .rows-is, o .left-is, o .width-is) at g))

@@ -45,6 +45,10 @@ loadSheet = bytesOf (0xAAAA ∷ 1 ∷ 0 ∷ 0 ∷ 0 ∷ 3 ∷ 16 ∷ 3 ∷ 12 �
 abbrev pub loadFile : List ℕ
 loadFile = bytesOf (12 ∷ 0 ∷ exampleLoad)
 
+-- two bands of one line, of which each takes the run group from the load
+abbrev pub loadBands : List ℕ
+loadBands = bytesOf (0xAAAA ∷ 1 ∷ 0 ∷ 0 ∷ 0 ∷ 2 ∷ 16 ∷ 1 ∷ 12 ∷ 0 ∷ 1 ∷ 1 ∷ 2 ∷ 4 ∷ 8 ∷ 6 ∷ 0 ∷ 0 ∷ 4 ∷ 8 ∷ 6 ∷ 0 ∷ 1 ∷ [])
+
 -- one page of 4 lines of 16 dots in bands of 2, with these words from word 12 on
 abbrev pub onePage : List ℕ → List ℕ
 onePage rest = bytesOf (0xAAAA ∷ 1 ∷ 0 ∷ 0 ∷ 0 ∷ 4 ∷ 16 ∷ 2 ∷ 0 ∷ 0 ∷ 1 ∷ 1 ∷ rest)

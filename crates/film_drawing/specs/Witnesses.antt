@@ -9,17 +9,19 @@ use Rattle.film_words.specs.Load.{loadCount, loadWords}
 use Rattle.film_words.specs.Arrays.{arrayExtent, samplesIn, tileIn}
 use Rattle.film_words.specs.Groups.{linesExtent, groupExtent, linesIn, runsIn}
 use Rattle.film_commands.specs.Commands.{command, priorityFrom, tileFrom, rectangleFrom, trapezoidFrom, runsFrom, loadRunsFrom, samplesFrom, loadSamplesFrom}
-use Rattle.film_commands.specs.Band.{readFrom, readBand}
+use Rattle.film_commands.specs.Band.{readFrom, readBand, strokes, strokesFrom}
 use Rattle.film_herald.specs.Herald.{bandCount}
-use Rattle.film_herald.specs.Refusals.{first, lengthTable, passwordTable, sizeTable, loadTable, pageTable, frontTable, front}
-use Rattle.film_check.specs.Layout.{bandsThen, pagesFrom, reach}
-use Rattle.film_check.specs.Check.{checkAnswer, checkLayout, pages}
+use Rattle.film_herald.specs.Refusals.{first, lengthTable, passwordTable, sizeTable, loadTable, pageTable, heraldTable, heraldTest}
+use Rattle.film_layout.specs.Layout.{bandsThen, pagesFrom, reachPage, reach}
+use Rattle.film_check.specs.Check.{checkAnswer, checkLayout}
+use Rattle.film_check.specs.declared.Checked.the-variants.{Pages}
 use Rattle.film_imaging.specs.Masks.{masked, sample, inRuns, within}
 use Rattle.film_imaging.specs.Colours.{painted, tileDot, tileStart}
 use Rattle.film_imaging.specs.Pictures.{rowsOf, numbered, rowBytes, filmOf, carryOut}
 use Rattle.film_drawing.specs.Examples.{emptyLoad, listing, listing₂, twoPages, twoPages₂, cutBand, loadSheet, loadFile}
+use Rattle.film_drawing.specs.Picture.{pageAt}
 use Rattle.film_drawing.specs.Draw.{drawTable, drawAnswer, bufferAfter}
-use Rattle.film_drawing.specs.Demand3.{Buffers, draw, write, Call, Made, over, wrote, called, OneOfEach, none, more, Alike}
+use Rattle.film_drawing.specs.Demand3.{Passes, Buffers, draw, write, Call, Made, over, wrote, called, OneOfEach, none, more, Alike}
 use Rattle.film_drawing.specs.declared.Drawn.the-variants.{Done, Refused}
 
 -- every buffer holds five bytes at first
@@ -36,43 +38,43 @@ last-call = record { page = 0; b = 0; held = 8 ∷ 8 ∷ 8 ∷ 8 ∷ []; answer 
 abbrev some-calls : List Call
 some-calls =
     first-call
-    ∷ record { page = 1; b = 0; held = 0x70 ∷ 0 ∷ 0 ∷ 0 ∷ 9 ∷ []; answer = Refused 11 0; left = 0x70 ∷ 0 ∷ 0 ∷ 0 ∷ 9 ∷ [] }
-    ∷ record { page = 0; b = 0; held = 5 ∷ 6 ∷ 7 ∷ []; answer = Refused 12 0; left = 5 ∷ 6 ∷ 7 ∷ [] }
+    ∷ record { page = 1; b = 0; held = 0x70 ∷ 0 ∷ 0 ∷ 0 ∷ 9 ∷ []; answer = Refused (record { number = 11; place = 0 }); left = 0x70 ∷ 0 ∷ 0 ∷ 0 ∷ 9 ∷ [] }
+    ∷ record { page = 0; b = 0; held = 5 ∷ 6 ∷ 7 ∷ []; answer = Refused (record { number = 12; place = 0 }); left = 5 ∷ 6 ∷ 7 ∷ [] }
     ∷ last-call
     ∷ []
 
 pub record Witnesses : Type 0 where
-  pub listing-passes : checkAnswer listing emptyLoad ≡ pages 1
-  pub cut-passes : checkAnswer cutBand emptyLoad ≡ pages 1
-  pub load-passes : checkAnswer loadSheet loadFile ≡ pages 1
+  pub listing-passes : Passes listing emptyLoad
+  pub cut-passes : Passes cutBand emptyLoad
+  pub load-passes : Passes loadSheet loadFile
   pub calls-made :
       Made listing emptyLoad five (draw 0 1 7 ∷ draw 1 0 7 ∷ write 7 (5 ∷ 6 ∷ 7 ∷ []) ∷ draw 0 0 7 ∷ write 7 (8 ∷ 8 ∷ 8 ∷ 8 ∷ []) ∷ draw 0 0 7 ∷ []) some-calls
   pub one-of-each : OneOfEach some-calls 0 0 2 (last-call ∷ first-call ∷ [])
   -- alike but for a page's last band, and but for the first band of all, after which everything moves
-  pub last-band-passes : checkAnswer listing₂ emptyLoad ≡ pages 1
+  pub last-band-passes : Passes listing₂ emptyLoad
   pub last-band-alike : Alike listing listing₂ 0 1
-  pub two-pages-pass : checkAnswer twoPages emptyLoad ≡ pages 2
-  pub first-band-passes : checkAnswer twoPages₂ emptyLoad ≡ pages 2
+  pub two-pages-pass : Passes twoPages emptyLoad
+  pub first-band-passes : Passes twoPages₂ emptyLoad
   pub first-band-alike : Alike twoPages twoPages₂ 0 0
 
 pub witnesses : Witnesses
-unfolding checkAnswer checkLayout drawAnswer drawTable bufferAfter front first lengthTable passwordTable sizeTable loadTable pageTable frontTable loadCount onesOf ones joined words bytesOf loadWords bandCount bandsThen pagesFrom reach readBand readFrom command priorityFrom tileFrom rectangleFrom trapezoidFrom runsFrom loadRunsFrom samplesFrom loadSamplesFrom arrayExtent samplesIn tileIn linesExtent groupExtent linesIn runsIn rowsOf numbered rowBytes rowOf byteOf filmOf carryOut painted tileDot tileStart masked sample inRuns within
+unfolding checkAnswer checkLayout drawAnswer drawTable bufferAfter pageAt heraldTest first lengthTable passwordTable sizeTable loadTable pageTable heraldTable loadCount onesOf ones joined words bytesOf loadWords bandCount bandsThen pagesFrom reachPage reach readBand readFrom strokes strokesFrom command priorityFrom tileFrom rectangleFrom trapezoidFrom runsFrom loadRunsFrom samplesFrom loadSamplesFrom arrayExtent samplesIn tileIn linesExtent groupExtent linesIn runsIn rowsOf numbered rowBytes rowOf byteOf filmOf carryOut painted tileDot tileStart masked sample inRuns within
 witnesses =
     record {
-      listing-passes = refl;
-      cut-passes = refl;
-      load-passes = refl;
+      listing-passes = record { answer = Pages 1; promised = record { answer-is = refl }; count = 1; is = refl };
+      cut-passes = record { answer = Pages 1; promised = record { answer-is = refl }; count = 1; is = refl };
+      load-passes = record { answer = Pages 1; promised = record { answer-is = refl }; count = 1; is = refl };
       calls-made =
           called (Done 2 3) _ (record { answer-is = refl; left-is = refl })
-          (called (Refused 11 0) _ (record { answer-is = refl; left-is = refl })
-          (wrote (called (Refused 12 0) _ (record { answer-is = refl; left-is = refl })
+          (called (Refused (record { number = 11; place = 0 })) _ (record { answer-is = refl; left-is = refl })
+          (wrote (called (Refused (record { number = 12; place = 0 })) _ (record { answer-is = refl; left-is = refl })
           (wrote (called (Done 2 3) _ (record { answer-is = refl; left-is = refl }) over)))));
       one-of-each =
           more last-call (List·Memᴰ·tail (List·Memᴰ·tail (List·Memᴰ·tail (List·Memᴰ·head refl)))) refl refl refl
           (more first-call (List·Memᴰ·head refl) refl refl refl none);
-      last-band-passes = refl;
-      two-pages-pass = refl;
-      first-band-passes = refl;
+      last-band-passes = record { answer = Pages 1; promised = record { answer-is = refl }; count = 1; is = refl };
+      two-pages-pass = record { answer = Pages 2; promised = record { answer-is = refl }; count = 2; is = refl };
+      first-band-passes = record { answer = Pages 2; promised = record { answer-is = refl }; count = 2; is = refl };
       last-band-alike =
           record {
             before = 0xAAAA ∷ 1 ∷ 0 ∷ 0x0258 ∷ 0x0258 ∷ 4 ∷ 16 ∷ 2 ∷ 0 ∷ 0 ∷ 1 ∷ 1 ∷ 2 ∷ 5 ∷ 5 ∷ 1 ∷ 2 ∷ 1 ∷ 3 ∷ [];

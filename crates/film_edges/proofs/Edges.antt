@@ -2,7 +2,7 @@
 use mathlib.Core.Path.{_≡_, refl, sym, ap, _∙_}
 use mathlib.Core.Bool.{true, false, false≢true}
 use Prim.Native.Nat.{ℕ, zero, suc, _+_, _-_, _*_, _/_, _%_, _^_, _≤_, _<_, zero-le}
-use native.Mathlib.Nat.{div-le-self, div-add-mod', mod-lt, mul-le-mul, add-mul, add-mul-div-right, div-eq-of-lt, div-le-of-le-mul, mul-comm, le-refl}
+use native.Mathlib.Nat.{div-le-self, div-add-mod', mod-lt, mul-le-mul, add-mul, add-mul-div-right, div-eq-of-lt, div-le-of-le-mul, div-zero, add-zero, mul-comm, le-refl}
 use native.Mathlib.Omega.{arith}
 use native.Mathlib.Decide.{decLe}
 use borrow.Author.Tests.{lt-ltb, ltb-false}
@@ -13,8 +13,7 @@ use mir.Syntax.{w64}
 use mir.Val.{SFits, Fits, toZ, ofZ}
 use mir.Facts.{toZ-ofZ}
 use Rattle.film_words.specs.Words.{ceilDiv}
-use Rattle.film_imaging.proofs.Trapezoid as natural
-use Rattle.film_imaging.proofs.Trapezoid.{pos-sub, edge-nat}
+use Rattle.film_imaging.proofs.Trapezoid.{edgeDot, pos-sub, edge-nat}
 use Rattle.film_edges.specs.Edges.{ceilZ, edgeAt}
 
 -- ---- differences, by the order of the two
@@ -106,8 +105,17 @@ ceil-add a n v (negsuc k) h e = go (decLe (suc k) (a * n))
         let small : n - 1 - r < n = omega arith in
         diff-le a q b ∙ ap pos (rw (t, add-mul-div-right (n - 1 - r) (a - q) h) (omega (arith, div-eq-of-lt small)))
 
+-- over no lines it stays at its first place
+pub edge-none : (a z d : ℕ) → edgeAt a z 0 d ≡ pos a
+unfolding ceilZ edgeAt
+edge-none a z d = ap (λ (x : ℤ). pos a +ℤ x) (none ((pos z -ℤ pos a) *ℤ pos d)) ∙ ap pos (add-zero a)
+  where
+    none : (x : ℤ) → ceilZ x 0 ≡ pos 0
+    none (pos v) = ap pos (div-zero (v + 0))
+    none (negsuc v) = ap (λ (q : ℕ). negℤ (pos q)) (div-zero (suc v))
+
 -- an edge stays between its ends, so its place is no negative number
-pub edge-place : (a z n d : ℕ) → 1 ≤ n → d ≤ n → edgeAt a z n d ≡ pos (natural.edgeAt a z n d)
+pub edge-place : (a z n d : ℕ) → 1 ≤ n → d ≤ n → edgeAt a z n d ≡ pos (edgeDot a z n d)
 unfolding edgeAt
 edge-place a z n d h l = ceil-add a n (a * (n - d) + z * d) ((pos z -ℤ pos a) *ℤ pos d) h (edge-nat a z n d l)
 
@@ -116,9 +124,9 @@ pub record Place (x : ℤ) (m : ℕ) : Type 0 where
   pub cast : T (nonNeg (toZ w64 (ofZ w64 x))) × Fits w64 (natAbs (toZ w64 (ofZ w64 x)))
   pub is : natAbs (toZ w64 (ofZ w64 x)) ≡ m
 
-pub placed : (x : ℤ) (a z n d : ℕ) → mag x < 2 ^ 63 → x ≡ edgeAt a z n d → 1 ≤ n → d ≤ n → Place x (natural.edgeAt a z n d)
+pub placed : (x : ℤ) (a z n d : ℕ) → mag x < 2 ^ 63 → x ≡ edgeAt a z n d → 1 ≤ n → d ≤ n → Place x (edgeDot a z n d)
 placed x a z n d small e h l =
-    let p : x ≡ pos (natural.edgeAt a z n d) = e ∙ edge-place a z n d h l in
-    let i : toZ w64 (ofZ w64 x) ≡ pos (natural.edgeAt a z n d) = toZ-ofZ (record { sfits = small }) ∙ p in
-    let m : natural.edgeAt a z n d < 2 ^ 63 = rw p at small in
+    let p : x ≡ pos (edgeDot a z n d) = e ∙ edge-place a z n d h l in
+    let i : toZ w64 (ofZ w64 x) ≡ pos (edgeDot a z n d) = toZ-ofZ (record { sfits = small }) ∙ p in
+    let m : edgeDot a z n d < 2 ^ 63 = rw p at small in
     record { cast = rw i (tt, record { fits = omega arith }); is = ap natAbs i }

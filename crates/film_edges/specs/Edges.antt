@@ -33,6 +33,8 @@ pub record EdgeCases : Type 0 where
   pub third-lines : edgeAt 0 4 12 9 ≡ pos 3
   pub before-line : edgeAt 0 4 12 8 ≡ pos 3
   pub largest : edgeAt 131070 0 65534 65534 ≡ pos 0
+  -- over no lines it stays at its first place
+  pub no-lines : edgeAt 3 7 0 5 ≡ pos 3
 
 pub edge-cases : EdgeCases
 unfolding ceilZ edgeAt

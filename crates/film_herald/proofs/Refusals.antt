@@ -7,29 +7,34 @@ use native.Mathlib.Omega.{arith}
 use borrow.Author.Tests.{ltb-false, eqb-false, eqb-true, not-false}
 use lib.Dec.{ltb}
 use lib.ListN.{length, getD}
+use Rattle.refusal.specs.Answers.{refused, andThen, Verdict, fine}
 use Rattle.film_words.specs.Words.{words}
 use Rattle.film_words.specs.Load.{loadCount}
 use Rattle.film_herald.specs.Herald.{heraldOf, pageCount, rowLength}
-use Rattle.film_herald.specs.Refusals.{Line, refuse, Verdict, fine, refused, first, orElse, outside, lengthTable, passwordTable, sizeTable, loadTable, pageTable, frontTable, front}
+use Rattle.film_herald.specs.Refusals.{Line, refuse, first, outside, lengthTable, passwordTable, sizeTable, loadTable, pageTable, heraldTable, heraldTest}
 
 -- ---- one line
 
+-- a line that holds
 pub first-yes : (l : Line) (ls : List Line) → l .when ≡ true → first (l ∷ ls) ≡ refused (l .number) (l .place)
 unfolding first
 first-yes l ls e = ap (λ (t : Bool). cond t (refused (l .number) (l .place)) (first ls)) e
 
+-- a line that does not hold
 pub first-no : (l : Line) (ls : List Line) → l .when ≡ false → first (l ∷ ls) ≡ first ls
 unfolding first
 first-no l ls e = ap (λ (t : Bool). cond t (refused (l .number) (l .place)) (first ls)) e
 
--- the last line of a table
+-- the last line of a table, where it does not hold
 pub first-last : (l : Line) → l .when ≡ false → first (l ∷ []) ≡ fine
 unfolding first
 first-last l e = first-no l [] e
 
+-- a refusal is not fine
 fine-not-refused : (n p : ℕ) → refused n p ≡ fine → ⊥
 fine-not-refused n p e = let z : _≡_ {A = ℕ} 0 1 = cc in omega arith
 
+-- where the verdict is fine, the first line does not hold
 pub first-cons : (l : Line) (ls : List Line) → first (l ∷ ls) ≡ fine → (l .when ≡ false) × (first ls ≡ fine)
 unfolding first
 first-cons l ls = go (l .when)
@@ -40,17 +45,18 @@ first-cons l ls = go (l .when)
 
 -- ---- two tables, one after the other
 
-pub first-append : (a b : List Line) → first (a ++ b) ≡ orElse (first a) (first b)
+-- the second is read where nothing is wrong by the first
+pub first-append : (a b : List Line) → first (a ++ b) ≡ andThen (first a) (λ u. first b)
 unfolding first
 first-append [] b = refl
 first-append (l ∷ ls) b = go (l .when) (first-append ls b)
   where
-    go : (t : Bool) → first (ls ++ b) ≡ orElse (first ls) (first b)
-        → cond t (refused (l .number) (l .place)) (first (ls ++ b)) ≡ orElse (cond t (refused (l .number) (l .place)) (first ls)) (first b)
+    go : (t : Bool) → first (ls ++ b) ≡ andThen (first ls) (λ u. first b)
+        → cond t (refused (l .number) (l .place)) (first (ls ++ b)) ≡ andThen (cond t (refused (l .number) (l .place)) (first ls)) (λ u. first b)
     go true e = refl
     go false e = e
 
--- ---- a table read line by line, by calls of `line`
+-- ---- a table read line by line, by calls of `refuse_if`
 
 -- v is what the lines a give
 pub record Gives (a : List Line) (v : Verdict) : Type 0 where
@@ -63,12 +69,14 @@ none-yet = record { is = refl }
 
 -- one more line: a call gives w, and u is the line's test as the table has it
 pub one-more : {a : List Line} {v w : Verdict} {t : Bool} (n p : ℕ) (u : Bool)
-    → Gives a v → w ≡ orElse v (first (refuse n p t ∷ [])) → t ≡ u → Gives (a ++ (refuse n p u ∷ [])) w
+    → Gives a v → w ≡ andThen v (λ u. first (refuse n p t ∷ [])) → t ≡ u → Gives (a ++ (refuse n p u ∷ [])) w
 one-more {a} {v} {w} {t} n p u h e q =
-    record { is = e ∙ ap₂ (λ (x : Verdict) (y : Bool). orElse x (first (refuse n p y ∷ []))) (h .is) q ∙ sym (first-append a (refuse n p u ∷ [])) }
+    let same = ap₂ (λ (x : Verdict) (y : Bool). andThen x (λ u. first (refuse n p y ∷ []))) (h .is) q in
+    record { is = e ∙ same ∙ sym (first-append a (refuse n p u ∷ [])) }
 
 -- ---- what passes
 
+-- what is not outside
 pub outside-false : (low high x : ℕ) → outside low high x ≡ false → (low ≤ x) × (x ≤ high)
 outside-false low high x e = (ltb-false x low (left (ltb x low) (ltb high x) e), ltb-false high x (right (ltb x low) (ltb high x) e))
   where
@@ -88,7 +96,7 @@ line-no (l ∷ ls) e zero = first-cons l ls e .0
 line-no (l ∷ ls) e (suc i) = line-no ls (first-cons l ls e .1) i
 
 -- what a sheet and load are that nothing is wrong with before the walk: each line of the table
-pub record FrontFine (sheet load : List ℕ) : Type 0 where
+pub record HeraldFine (sheet load : List ℕ) : Type 0 where
   pub sheet-even : length sheet % 2 ≡ 0
   pub load-even : length load % 2 ≡ 0
   pub sheet-length : length sheet ≤ 16777216
@@ -106,10 +114,11 @@ pub record FrontFine (sheet load : List ℕ) : Type 0 where
   pub load-limit : loadCount load ≤ heraldOf (words sheet) .maxLoadWords
   pub pages-low : 0 < pageCount (words sheet)
 
-pub front-fine : (sheet load : List ℕ) → front sheet load ≡ fine → FrontFine sheet load
-unfolding front frontTable lengthTable passwordTable sizeTable loadTable pageTable
-front-fine sheet load e =
-    let no = line-no (frontTable sheet load) e in
+-- it follows from the table
+pub herald-fine : (sheet load : List ℕ) → heraldTest sheet load ≡ fine → HeraldFine sheet load
+unfolding heraldTest heraldTable lengthTable passwordTable sizeTable loadTable pageTable
+herald-fine sheet load e =
+    let no = line-no (heraldTable sheet load) e in
     let ws = words sheet in
     let h = heraldOf ws in
     let lines = outside-false 1 32768 (h .imageSSize) (no 7) in

@@ -51,9 +51,18 @@ bandRows h b = min (h .bandSSize) (h .imageSSize - bandStart h b)
 abbrev pub rowLength : ℕ → ℕ
 rowLength width = 2 * ceilDiv width 16
 
+-- a page's window: its rows hold the dots fMin ≤ f < fMin + fSize
+pub record Window : Type 0 where
+  pub fMin : ℕ
+  pub fSize : ℕ
+
+-- every page has the whole film
+abbrev pub wholeFilm : Herald → Window
+wholeFilm h = record { fMin = 0; fSize = h .imageFSize }
+
 -- the bytes of a band's own rows
-abbrev pub bandBytes : Herald → ℕ → ℕ
-bandBytes h b = bandRows h b * rowLength (h .imageFSize)
+abbrev pub bandBytes : Herald → Window → ℕ → ℕ
+bandBytes h w b = bandRows h b * rowLength (w .fSize)
 
 -- ---- worked cases
 
@@ -72,13 +81,16 @@ pub record HeraldCases : Type 0 where
   pub band-lines : exampleHerald .bandSSize ≡ 2
   pub load-limit : exampleHerald .maxLoadWords ≡ 0x00010002
   pub copies-is : exampleHerald .copies ≡ 7
+  pub pages-counted : pageCount (0 ∷ 1 ∷ 2 ∷ 3 ∷ 4 ∷ 5 ∷ 6 ∷ 7 ∷ 8 ∷ 9 ∷ 10 ∷ 11 ∷ 12 ∷ []) ≡ 11
   pub bands : bandCount exampleHerald ≡ 3
   pub second-start : bandStart exampleHerald 1 ≡ 2
   pub whole-band : bandRows exampleHerald 1 ≡ 2
   pub cut-band : bandRows exampleHerald 2 ≡ 1
   pub row-of-17 : rowLength 17 ≡ 4
   pub row-of-16 : rowLength 16 ≡ 2
-  pub cut-band-bytes : bandBytes exampleHerald 2 ≡ 4
+  pub whole-film : wholeFilm exampleHerald ≡ record { fMin = 0; fSize = 17 }
+  pub cut-band-bytes : bandBytes exampleHerald (wholeFilm exampleHerald) 2 ≡ 4
+  pub window-bytes : bandBytes exampleHerald (record { fMin = 9; fSize = 8 }) 0 ≡ 4
 
 pub herald-cases : HeraldCases
 unfolding bandCount

@@ -5,6 +5,7 @@ use mathlib.Core.List.{List, [], _∷_, _++_}
 use Prim.Native.Nat.{ℕ, _+_, _*_, _%_}
 use lib.Dec.{ltb, eqb}
 use lib.ListN.{length}
+use Rattle.refusal.specs.Answers.{refused, Verdict, fine}
 use Rattle.film_words.specs.Words.{words, at, bytesOf}
 use Rattle.film_words.specs.Load.{loadCount}
 use Rattle.film_herald.specs.Herald.{Herald, heraldOf, pageCount, rowLength}
@@ -18,19 +19,9 @@ pub record Line : Type 0 where
 abbrev pub refuse : ℕ → ℕ → Bool → Line
 refuse n p t = record { when = t; number = n; place = p }
 
--- nothing wrong, or a refusal
-pub data Verdict : Type 0 where
-  fine : Verdict
-  refused : (number place : ℕ) → Verdict
-
 unfoldable pub first : List Line → Verdict
 first [] = fine
 first (l ∷ ls) = cond (l .when) (refused (l .number) (l .place)) (first ls)
-
--- the first verdict, unless it is fine
-abbrev pub orElse : Verdict → Verdict → Verdict
-orElse fine v = v
-orElse (refused n p) v = refused n p
 
 -- ---- by number
 
@@ -84,14 +75,14 @@ pageTable pages = refuse 5 11 (eqb pages 0) ∷ []
 
 -- ---- in their order, of the bytes of sheet and load
 
-unfoldable pub frontTable : List ℕ → List ℕ → List Line
-frontTable sheet load =
+unfoldable pub heraldTable : List ℕ → List ℕ → List Line
+heraldTable sheet load =
     let ws = words sheet in
     lengthTable (length sheet) (length load) ++ passwordTable ws ++ sizeTable (heraldOf ws) ++ loadTable (heraldOf ws) load ++ pageTable (pageCount ws)
 
 -- what the table says
-unfoldable pub front : List ℕ → List ℕ → Verdict
-front sheet load = first (frontTable sheet load)
+unfoldable pub heraldTest : List ℕ → List ℕ → Verdict
+heraldTest sheet load = first (heraldTable sheet load)
 
 -- ---- worked cases
 
@@ -105,17 +96,15 @@ loaded load = first (loadTable (heraldOf (0xAAAA ∷ 1 ∷ 0 ∷ 0 ∷ 0 ∷ 1 �
 
 -- a sheet of 12 words, by password, bandSSize and page count, with no load
 abbrev twelve : ℕ → ℕ → ℕ → Verdict
-twelve password band pages = front (bytesOf (password ∷ 1 ∷ 0 ∷ 0 ∷ 0 ∷ 1 ∷ 1 ∷ band ∷ 0 ∷ 0 ∷ 1 ∷ pages ∷ [])) []
+twelve password band pages = heraldTest (bytesOf (password ∷ 1 ∷ 0 ∷ 0 ∷ 0 ∷ 1 ∷ 1 ∷ band ∷ 0 ∷ 0 ∷ 1 ∷ pages ∷ [])) []
 
 pub record RefusalCases : Type 0 where
-  pub first-kept : orElse (refused 2 0) (refused 3 5) ≡ refused 2 0
-  pub next-given : orElse fine (refused 3 5) ≡ refused 3 5
-  pub odd-sheet : front (1 ∷ []) [] ≡ refused 1 0
-  pub odd-load : front [] (1 ∷ []) ≡ refused 1 0
+  pub odd-sheet : heraldTest (1 ∷ []) [] ≡ refused 1 0
+  pub odd-load : heraldTest [] (1 ∷ []) ≡ refused 1 0
   pub length-limits : first (lengthTable 16777216 16777216) ≡ fine
   pub sheet-too-long : first (lengthTable 16777218 0) ≡ refused 1 0
   pub load-too-long : first (lengthTable 0 16777218) ≡ refused 1 0
-  pub empty-sheet : front [] [] ≡ refused 2 0
+  pub empty-sheet : heraldTest [] [] ≡ refused 2 0
   pub eleven-words : first (passwordTable (0xAAAA ∷ 1 ∷ 0 ∷ 0 ∷ 0 ∷ 1 ∷ 1 ∷ 1 ∷ 0 ∷ 0 ∷ 1 ∷ [])) ≡ refused 2 0
   pub twelve-words : first (passwordTable (0xAAAA ∷ 1 ∷ 0 ∷ 0 ∷ 0 ∷ 1 ∷ 1 ∷ 1 ∷ 0 ∷ 0 ∷ 1 ∷ 1 ∷ [])) ≡ fine
   pub password-wrong : first (passwordTable (0xAAAB ∷ 2 ∷ 0 ∷ 0 ∷ 0 ∷ 1 ∷ 1 ∷ 1 ∷ 0 ∷ 0 ∷ 1 ∷ 1 ∷ [])) ≡ refused 2 0
@@ -145,5 +134,5 @@ pub record RefusalCases : Type 0 where
   pub load-before-pages : twelve 0xAAAA 1 0 ≡ refused 4 8
 
 pub refusal-cases : RefusalCases
-unfolding first lengthTable passwordTable sizeTable loadTable pageTable frontTable front words bytesOf loadCount
+unfolding first lengthTable passwordTable sizeTable loadTable pageTable heraldTable heraldTest words bytesOf loadCount
 refusal-cases = search

@@ -79,8 +79,8 @@ module _ (x n f : ℕ) (some : 0 < n) where
       down l (no p) = omega arith
 
 -- the place of an edge, rounded up
-abbrev pub edgeAt : (a z n d : ℕ) → ℕ
-edgeAt a z n d = ceilDiv (a * (n - d) + z * d) n
+abbrev pub edgeDot : (a z n d : ℕ) → ℕ
+edgeDot a z n d = ceilDiv (a * (n - d) + z * d) n
 
 -- ---- trapezoids
 
@@ -119,7 +119,7 @@ module _ (sMin sSize fMin fSize fMinLast fSizeLast s f : ℕ) where
   -- a line that it has is one stretch, between the two edges rounded up
   pub trapezoid-line : 1 < sSize → within sMin sSize s ≡ true
       → masked (trapezoid sMin sSize fMin fSize fMinLast fSizeLast) s f
-      ≡ (leb (edgeAt fMin fMinLast (sSize - 1) (s - sMin)) f && ltb f (edgeAt (fMin + fSize) (fMinLast + fSizeLast) (sSize - 1) (s - sMin)))
+      ≡ (leb (edgeDot fMin fMinLast (sSize - 1) (s - sMin)) f && ltb f (edgeDot (fMin + fSize) (fMinLast + fSizeLast) (sSize - 1) (s - sMin)))
   trapezoid-line some h =
       trapezoid-on h
       ∙ ap₂ (λ (x y : Bool). x && y) (ceil-le _ (sSize - 1) f (omega arith)) (ceil-lt _ (sSize - 1) f (omega arith))

@@ -43,9 +43,10 @@ sample a i j = ltb i (a .sSize) && ltb j (a .fSize) && wordBit (at (a .lines) (i
 unfoldable pub masked : Mask → Film
 masked (rectangle sMin sSize fMin fSize) s f = within sMin sSize s && within fMin fSize f
 masked (trapezoid sMin sSize fMin fSize fMinLast fSizeLast) s f =
+    let n = sSize - 1 in
     within sMin sSize s
-    && leZ (edge fMin fMinLast (sSize - 1) (s - sMin)) (pos (f * (sSize - 1)))
-    && ltZ (pos (f * (sSize - 1))) (edge (fMin + fSize) (fMinLast + fSizeLast) (sSize - 1) (s - sMin))
+    && leZ (edge fMin fMinLast n (s - sMin)) (pos (f * n))
+    && ltZ (pos (f * n)) (edge (fMin + fSize) (fMinLast + fSizeLast) n (s - sMin))
 masked (runs sMin group) s f = leb sMin s && inRuns (runsIn group) (s - sMin) f
 masked (samples sMin fMin array) s f = leb sMin s && leb fMin f && sample (samplesIn array) (s - sMin) (f - fMin)
 
@@ -65,6 +66,14 @@ pub record MaskCases : Type 0 where
   pub edge-middle : edge 3 0 2 1 ≡ pos 3
   pub rounded-up : masked (trapezoid 0 3 3 1 0 1) 1 2 ≡ true
   pub not-toward-zero : masked (trapezoid 0 3 3 1 0 1) 1 1 ≡ false
+  -- lines 5 to 7: none before sMin, none after the last
+  pub trapezoid-above : masked (trapezoid 5 3 3 1 0 1) 4 3 ≡ false
+  pub trapezoid-first : masked (trapezoid 5 3 3 1 0 1) 5 3 ≡ true
+  pub trapezoid-middle : masked (trapezoid 5 3 3 1 0 1) 6 2 ≡ true
+  pub trapezoid-left-of : masked (trapezoid 5 3 3 1 0 1) 6 1 ≡ false
+  pub trapezoid-right-of : masked (trapezoid 5 3 0 1 3 1) 6 3 ≡ false
+  pub trapezoid-last : masked (trapezoid 5 3 3 1 0 1) 7 0 ≡ true
+  pub trapezoid-below : masked (trapezoid 5 3 1 9 1 9) 8 5 ≡ false
   pub high-bit-first : wordBit 0x8000 0 ≡ true
   pub low-bit-last : wordBit 0x0001 15 ≡ true
   pub sample-there : sample (record { sSize = 2; fSize = 17; lines = 0 ∷ 0 ∷ 0 ∷ 0x8000 ∷ [] }) 1 16 ≡ true

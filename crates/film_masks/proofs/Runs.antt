@@ -5,18 +5,20 @@ use mathlib.Core.List.{List, [], _∷_}
 use Prim.Native.Nat.{ℕ, zero, suc, _+_, _-_, _%_, _<_, _≤_}
 use native.Mathlib.Omega.{arith}
 use borrow.Author.Tests.{le-leb, lt-leb, ne-eqb, leb-true}
-use lib.Dec.{leb, eqb}
+use lib.Dec.{leb, ltb, eqb}
 use lib.ListN.{length, drop, length-drop}
 use Rattle.truth.proofs.Tests.{is-same, and-is, leb-is, eqb-is}
 use Rattle.row.proofs.Dots.{Bytes}
 use Rattle.film_words.specs.Words.{at}
 use Rattle.film_words.specs.Groups.{Run, lastRun, linesIn, runsIn}
 use Rattle.film_words.proofs.Groups.{drop-two}
+use Rattle.film_commands.specs.Band.{Colour}
 use Rattle.film_commands.specs.Commands.{runs}
 use Rattle.film_imaging.specs.Masks.{within, inRuns, masked}
-use Rattle.film_imaging.specs.Colours.{Colour}
-use Rattle.film_masks.specs.Bands.{paintedBand}
-use Rattle.film_masks.proofs.Bands.{Left, left-first, left-next, left-none, left-length}
+use Rattle.film_paint.specs.Rows.{windowOf}
+use Rattle.film_paint.specs.declared.Frame.{Frame}
+use Rattle.film_masks.specs.Bands.{paintedFrame}
+use Rattle.film_masks.proofs.Bands.{band-off, Left, left-first, left-next, left-none, left-length}
 
 -- ---- the runs of n lines, of which the first is line i
 
@@ -116,49 +118,59 @@ module _ (sMin : ℕ) (ws : List ℕ) where
 -- ---- the walk over the runs: it stands at place q with n lines to come, the first of them line s
 
 -- the runs from there on are left to paint
-pub record Walked (width first rows : ℕ) (C : Colour) (sMin : ℕ) (ws buf₀ buf : List ℕ) (q s n : ℕ) : Type 0 where
+pub record Walked (v : Frame) (C : Colour) (sMin : ℕ) (ws buf₀ buf : List ℕ) (q s n : ℕ) : Type 0 where
   pub since : sMin ≤ s
-  pub left : Left width first rows C (runsFrom sMin ws q s n) buf (paintedBand width first rows C (masked (runs sMin ws)) buf₀)
+  pub left : Left (windowOf v) (v .top) (v .rows) C (runsFrom sMin ws q s n) buf (paintedFrame v C (masked (runs sMin ws)) buf₀)
 
-module _ {width first rows : ℕ} {C : Colour} {sMin : ℕ} {ws buf₀ : List ℕ} where
+module _ {v : Frame} {C : Colour} {sMin : ℕ} {ws buf₀ : List ℕ} where
   -- at the beginning
-  pub walked-first : {n : ℕ} → n ≡ at ws 0 → Bytes buf₀ → Walked width first rows C sMin ws buf₀ buf₀ 1 sMin n
+  pub walked-first : {n : ℕ} → n ≡ at ws 0 → Bytes buf₀ → Walked v C sMin ws buf₀ buf₀ 1 sMin n
   walked-first e bytes =
       record {
         since = omega arith;
-        left = left-first (masked (runs sMin ws)) bytes (λ t f a b l. ap (λ (x : ℕ). runsFrom sMin ws 1 sMin x t f) e ∙ runs-first sMin ws t f);
+        left = left-first (masked (runs sMin ws)) bytes (λ t f a b. ap (λ (x : ℕ). runsFrom sMin ws 1 sMin x t f) e ∙ runs-first sMin ws t f);
       }
 
-  module _ {buf : List ℕ} {q s n : ℕ} (v : Walked width first rows C sMin ws buf₀ buf q s n) where
+  module _ {buf : List ℕ} {q s n : ℕ} (k : Walked v C sMin ws buf₀ buf q s n) where
+    -- the run at place q, where the band has not line s
+    pub run-above : (from to : ℕ) → s < v .top → buf ≡ paintedFrame v C (λ t g. eqb t s && (leb from g && ltb g to)) buf
+    run-above from to h = band-off (windowOf v) (v .top) (v .rows) C s (λ g. leb from g && ltb g to) buf (k .left .bytes) (λ a b. omega arith)
+
     -- the run at place q has been painted
-    module _ {buf′ : List ℕ} {f w : ℕ} (z : 0 < n) (l : q + 2 ≤ length ws) (ef : f ≡ at ws q) (ew : w ≡ at ws (q + 1))
-        (e : buf′ ≡ paintedBand width first rows C (λ t g. eqb t s && within f (w % 32768) g) buf) where
+    module _ {buf′ : List ℕ} {w : ℕ} (z : 0 < n) (l : q + 2 ≤ length ws) (ew : w ≡ at ws (q + 1))
+        (e : buf′ ≡ paintedFrame v C (λ t g. eqb t s && (leb (at ws q) g && ltb g (at ws q + w % 32768))) buf) where
       walked-on : (s′ n′ : ℕ) → sMin ≤ s′
           → ((t g : ℕ) → runsFrom sMin ws q s n t g ≡ ((eqb t s && within (at ws q) (at ws (q + 1) % 32768) g) || runsFrom sMin ws (q + 2) s′ n′ t g))
-          → Walked width first rows C sMin ws buf₀ buf′ (q + 2) s′ n′
+          → Walked v C sMin ws buf₀ buf′ (q + 2) s′ n′
+      unfolding within
       walked-on s′ n′ h r =
-          record { since = h; left = left-next (λ t g. eqb t s && within f (w % 32768) g) (v .left) e (λ t g a b c. rw (ef, ew) (r t g)) }
+          record {
+            since = h;
+            left =
+                left-next (λ t g. eqb t s && (leb (at ws q) g && ltb g (at ws q + w % 32768))) (k .left) e
+                (λ t g a b. rw ew (r t g));
+          }
 
       -- the last of its line
-      pub walked-last : 32768 ≤ w → Walked width first rows C sMin ws buf₀ buf′ (q + 2) (s + 1) (n - 1)
+      pub walked-last : 32768 ≤ w → Walked v C sMin ws buf₀ buf′ (q + 2) (s + 1) (n - 1)
       walked-last h =
-          walked-on (s + 1) (n - 1) (omega (arith, v .since)) (λ t g. runs-last sMin ws q s n t g (v .since) z (omega arith) (omega arith))
+          walked-on (s + 1) (n - 1) (omega (arith, k .since)) (λ t g. runs-last sMin ws q s n t g (k .since) z (omega arith) (omega arith))
 
       -- another
-      pub walked-next : w < 32768 → Walked width first rows C sMin ws buf₀ buf′ (q + 2) s n
-      walked-next h = walked-on s n (v .since) (λ t g. runs-next sMin ws q s n t g (v .since) z (omega arith) (omega arith))
+      pub walked-next : w < 32768 → Walked v C sMin ws buf₀ buf′ (q + 2) s n
+      walked-next h = walked-on s n (k .since) (λ t g. runs-next sMin ws q s n t g (k .since) z (omega arith) (omega arith))
 
     -- no line is left
-    pub walked-done : n ≤ 0 → buf ≡ paintedBand width first rows C (masked (runs sMin ws)) buf₀
-    walked-done h = left-none (v .left) (λ t f a b l. runs-done sMin ws q s n t f h)
+    pub walked-done : n ≤ 0 → buf ≡ paintedFrame v C (masked (runs sMin ws)) buf₀
+    walked-done h = left-none (k .left) (λ t f a b. runs-done sMin ws q s n t f h)
 
     -- no whole run is left
-    pub walked-short : length ws < q + 2 → buf ≡ paintedBand width first rows C (masked (runs sMin ws)) buf₀
-    walked-short h = left-none (v .left) (λ t f a b l. runs-short sMin ws q s n t f (omega arith))
+    pub walked-short : length ws < q + 2 → buf ≡ paintedFrame v C (masked (runs sMin ws)) buf₀
+    walked-short h = left-none (k .left) (λ t f a b. runs-short sMin ws q s n t f (omega arith))
 
     -- the band ends before line s
-    pub walked-below : first + rows ≤ s → buf ≡ paintedBand width first rows C (masked (runs sMin ws)) buf₀
-    walked-below h = left-none (v .left) (λ t f a b l. runs-before sMin ws q s n t f (omega arith))
+    pub walked-below : v .top + v .rows ≤ s → buf ≡ paintedFrame v C (masked (runs sMin ws)) buf₀
+    walked-below h = left-none (k .left) (λ t f a b. runs-before sMin ws q s n t f (omega arith))
 
     pub walked-length : length buf ≡ length buf₀
-    walked-length = left-length (masked (runs sMin ws)) buf₀ (v .left)
+    walked-length = left-length (masked (runs sMin ws)) buf₀ (k .left)

@@ -1,31 +1,30 @@
-// Painting: a stretch or a line of samples in a colour, dot by dot into a line's row. Rows are written by the functions of `row` alone. s is a line of
-// the film, and `tile` are the words of the colour's tile.
+// Painting: a stretch or a line of samples in a colour, into a line's row. Rows are written by the functions of `row` alone. s is a line of the film, f a
+// dot of it, and `tile` are the words of the colour's tile.
 ghost use mathlib.Core.Path.{_≡_};
-ghost use mathlib.Core.Bool.{_&&_};
-ghost use Prim.Native.Nat.{_-_, _≤_};
+ghost use mathlib.Core.Bool.{true, _&&_};
+ghost use Prim.Native.Nat.{_+_, _-_, _≤_};
 ghost use lib.Dec.{leb, ltb};
 ghost use lib.ListN.{length, drop};
 ghost use Rattle.row.specs.Dots.{dotAt, rowOf};
 ghost use Rattle.row.specs.Stretches.{withDot};
 ghost use Rattle.film_words.specs.Words.{words};
 ghost use Rattle.film_words.specs.Arrays.{samplesIn, tileIn};
+ghost use Rattle.film_commands.specs.Band.{tiled};
+ghost use Rattle.film_commands.specs.Code.{colourWith};
 ghost use Rattle.film_imaging.specs.Masks.{sample};
 ghost use Rattle.film_imaging.specs.Colours.{tileDot, painted};
-ghost use Rattle.film_paint.specs.Colours.{colourWith};
-ghost use Rattle.film_paint.specs.Rows.{paintedRow};
+ghost use Rattle.film_paint.specs.Rows.{windowOf, paintedRow};
+use film_commands::Colour;
 use film_words::word;
 use row::fill;
 use row::set_dot;
 
-// Ink is `Solid(true)`, clear is `Solid(false)`; a tile stands in the words of the load file from `from` up to, not including, `to`. The functions
-// here take those words as `tile` and do not look at the places.
-pub enum Colour {
-    Solid(bool),
-    Tile {
-        transparent: bool,
-        from: usize,
-        to: usize,
-    },
+// The rows of a band buffer: `rows` rows, of which the first is line `top`; each holds the `width` dots from dot `left` on.
+pub struct Frame {
+    pub top: u16,
+    pub rows: u16,
+    pub left: u16,
+    pub width: u16,
 }
 
 // Dot j of line i of the sample array at place `at` of the file.
@@ -70,62 +69,90 @@ fn tile_dot(tile: &[u8], s: u32, f: usize) -> bool
     sample_dot(tile, 3, (d % s_size) as usize, (f - start) % f_size)
 }
 
-// Paints dot f of line s, where the mask's dot there is m.
-fn paint_dot(row: &mut [u8], s: u32, f: usize, m: bool, colour: Colour, tile: &[u8])
-    ensures { λ _. ⌜ now (row .exit) ≡ rowOf (length (now (row .entry))) (withDot f (painted (colourWith colour (words (now (tile .entry)))) s f m (dotAt (now (row .entry)) f)) (dotAt (now (row .entry)))) ⌝ }
+// Paints dot f of line s, which is dot j of the row, with a tile.
+fn paint_tile(row: &mut [u8], j: usize, s: u32, f: usize, transparent: bool, tile: &[u8])
+    ensures { λ _. ⌜ now (row .exit) ≡ rowOf (length (now (row .entry))) (withDot j (painted (tiled transparent 0 (words (now (tile .entry)))) s f true (dotAt (now (row .entry)) j)) (dotAt (now (row .entry)))) ⌝ }
+{
+    let c = tile_dot(tile, s, f);
+    // Where it is 0, a transparent tile leaves the dot.
+    if transparent {
+        if c {
+            set_dot(row, j, true);
+        }
+    } else {
+        set_dot(row, j, c);
+    }
+}
+
+// Paints dot f of line s, where the mask's dot there is m: it is dot j of the row.
+fn paint_dot(row: &mut [u8], j: usize, s: u32, f: usize, m: bool, colour: Colour, tile: &[u8])
+    ensures { λ _. ⌜ now (row .exit) ≡ rowOf (length (now (row .entry))) (withDot j (painted (colourWith colour (words (now (tile .entry)))) s f m (dotAt (now (row .entry)) j)) (dotAt (now (row .entry)))) ⌝ }
 {
     if m {
         match colour {
-            Colour::Solid(v) => set_dot(row, f, v),
-            Colour::Tile { transparent, .. } => {
-                let c = tile_dot(tile, s, f);
-                // Where it is 0, a transparent tile leaves the dot.
-                if transparent {
-                    if c {
-                        set_dot(row, f, true);
-                    }
-                } else {
-                    set_dot(row, f, c);
-                }
-            }
+            Colour::Solid(v) => set_dot(row, j, v),
+            Colour::Tile { transparent, .. } => paint_tile(row, j, s, f, transparent, tile),
         }
     }
 }
 
-// Paints the dots from `from` up to, not including, `to`, one by one.
-fn paint_dots(row: &mut [u8], s: u32, from: usize, to: usize, colour: Colour, tile: &[u8])
-    ensures { λ _. ⌜ now (row .exit) ≡ rowOf (length (now (row .entry))) (λ f. painted (colourWith colour (words (now (tile .entry)))) s f (leb from f && ltb f to) (dotAt (now (row .entry)) f)) ⌝ }
+// Paints the dots of the row from `from` up to, not including, `to` with a tile, one by one; the row's first dot is dot `left` of the film.
+fn paint_tiles(
+    row: &mut [u8],
+    left: u16,
+    s: u32,
+    from: usize,
+    to: usize,
+    transparent: bool,
+    tile: &[u8],
+)
+    requires { ⌜ to ≤ 65535 ⌝ }
+    ensures { λ _. ⌜ now (row .exit) ≡ rowOf (length (now (row .entry))) (λ j. painted (tiled transparent 0 (words (now (tile .entry)))) s (left + j) (leb from j && ltb j to) (dotAt (now (row .entry)) j)) ⌝ }
 {
-    let mut f = from;
-    while f < to && f / 8 < row.len() {
-        paint_dot(row, s, f, true, colour, tile);
-        f += 1;
+    let first = left as usize;
+    let mut j = from;
+    while j < to && j / 8 < row.len() {
+        paint_tile(row, j, s, first + j, transparent, tile);
+        j += 1;
     }
 }
 
-// Inks the stretch from `from` up to, not including, `to` into the row of line s.
+// How far f lies after `left`; 0 before it.
+fn after(left: usize, f: usize) -> usize
+    ensures { λ r. ⌜ r ≡ f - left ⌝ }
+{
+    if f < left { 0 } else { f - left }
+}
+
+// Inks the stretch of the film from dot `from` up to, not including, `to` into the row of line s.
 pub fn ink_stretch(
     row: &mut [u8],
-    width: usize,
+    frame: Frame,
     s: u32,
     from: usize,
     to: usize,
     colour: Colour,
     tile: &[u8],
 )
-    ensures { λ _. ⌜ now (row .exit) ≡ paintedRow width (colourWith colour (words (now (tile .entry)))) s (λ f. leb from f && ltb f to) (now (row .entry)) ⌝ }
+    ensures { λ _. ⌜ now (row .exit) ≡ paintedRow (windowOf frame) (colourWith colour (words (now (tile .entry)))) s (λ f. leb from f && ltb f to) (now (row .entry)) ⌝ }
 {
-    let end = if to < width { to } else { width };
+    let left = frame.left as usize;
+    let width = frame.width as usize;
+    let first = after(left, from);
+    let last = after(left, to);
+    let end = if last < width { last } else { width };
     match colour {
-        Colour::Solid(v) => fill(row, from, end, v),
-        _ => paint_dots(row, s, from, end, colour, tile),
+        Colour::Solid(v) => fill(row, first, end, v),
+        Colour::Tile { transparent, .. } => {
+            paint_tiles(row, frame.left, s, first, end, transparent, tile)
+        }
     }
 }
 
-// Inks line i of a sample array, from dot f_min on, into the row of line s.
+// Inks line i of a sample array, from dot f_min of the film on, into the row of line s.
 pub fn ink_samples(
     row: &mut [u8],
-    width: usize,
+    frame: Frame,
     s: u32,
     i: usize,
     f_min: u16,
@@ -133,15 +160,18 @@ pub fn ink_samples(
     colour: Colour,
     tile: &[u8],
 )
-    ensures { λ _. ⌜ now (row .exit) ≡ paintedRow width (colourWith colour (words (now (tile .entry)))) s (λ f. leb «f_min» f && sample (samplesIn (words (now (array .entry)))) i (f - «f_min»)) (now (row .entry)) ⌝ }
+    ensures { λ _. ⌜ now (row .exit) ≡ paintedRow (windowOf frame) (colourWith colour (words (now (tile .entry)))) s (λ f. leb «f_min» f && sample (samplesIn (words (now (array .entry)))) i (f - «f_min»)) (now (row .entry)) ⌝ }
 {
+    let left = frame.left as usize;
+    let width = frame.width as usize;
     let from = f_min as usize;
-    let to = from + word(array, 1) as usize;
-    let end = if to < width { to } else { width };
-    let mut f = from;
-    while f < end && f / 8 < row.len() {
+    let last = after(left, from + word(array, 1) as usize);
+    let end = if last < width { last } else { width };
+    let mut j = after(left, from);
+    while j < end && j / 8 < row.len() {
+        let f = left + j;
         let m = sample_dot(array, 0, i, f - from);
-        paint_dot(row, s, f, m, colour, tile);
-        f += 1;
+        paint_dot(row, j, s, f, m, colour, tile);
+        j += 1;
     }
 }

@@ -7,9 +7,9 @@ use Rattle.gdi_check.specs.declared.Step.the-variants.{Onward, Done, Sto
 use Rattle.gdi_check.specs.declared.Checked as code
 use Rattle.gdi_check.specs.declared.Checked.the-variants.{Pages, Refused}
 
-abbrev pub told : code.Checked → JobAnswer
-told (Pages n) = pages n
-told (Refused number place) = refused number place
+abbrev pub checkedAs : code.Checked → JobAnswer
+checkedAs (Pages n) = pages n
+checkedAs (Refused number place) = refused number place
 
 abbrev pub stateOf : code-state.State → State
 stateOf (Between n) = between n

@@ -3,7 +3,7 @@ ghost use mathlib.Core.Path.{_≡_};
 ghost use Prim.Native.Nat.{_+_, _<_, _≤_};
 ghost use lib.ListN.{length, drop};
 ghost use Rattle.gdi_jobs.specs.Jobs.{between, inPage, withSum, step, walk, jobAnswer, longest};
-ghost use Rattle.gdi_check.specs.Answers.{told, stateOf, stepOf};
+ghost use Rattle.gdi_check.specs.Answers.{checkedAs, stateOf, stepOf};
 ghost use Rattle.gdi_check.specs.Functions.{Bounded};
 use gdi_jobs::HEAD;
 use gdi_jobs::LONGEST;
@@ -133,7 +133,7 @@ fn step_at(job: &[u8], at: usize, state: State) -> Step
 // The walk over what comes after the head.
 fn walk_pages(job: &[u8]) -> Checked
     requires { ⌜ (86 ≤ length (now job)) × (length (now job) ≤ longest) ⌝ }
-    ensures { λ r. ⌜ told r ≡ walk (between 0) 0 86 (drop 86 (now (job .entry))) ⌝ }
+    ensures { λ r. ⌜ checkedAs r ≡ walk (between 0) 0 86 (drop 86 (now (job .entry))) ⌝ }
 {
     let mut at = 86;
     let mut state = State::Between(0);
@@ -152,7 +152,7 @@ fn walk_pages(job: &[u8]) -> Checked
 
 // The check of a job: the first refusal, or how many pages there are.
 pub fn check_job(job: &[u8]) -> Checked
-    ensures { λ r. ⌜ told r ≡ jobAnswer (now (job .entry)) ⌝ }
+    ensures { λ r. ⌜ checkedAs r ≡ jobAnswer (now (job .entry)) ⌝ }
 {
     if job.len() > LONGEST {
         return Checked::Refused(1, 0);

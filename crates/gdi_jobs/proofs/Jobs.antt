@@ -50,20 +50,20 @@ step-passed (inPage n width height lines sum left) bs =
     let full = eqb lines height in in-page-passed n width height lines sum left bs (next full full left bs) (next-sound full full left bs)
 
 module _ (s : State) (bs : List ℕ) where
-  told : (x : Step) → step s bs ≡ x → Passed bs x
-  told x e = subst (Passed bs) e (step-passed s bs)
+  passed-by : (x : Step) → step s bs ≡ x → Passed bs x
+  passed-by x e = subst (Passed bs) e (step-passed s bs)
 
   -- a step passes at least one byte of the job
   pub step-onward : (t : State) (n : ℕ) → step s bs ≡ onward t n → (1 ≤ n) × (n ≤ length bs)
-  step-onward t n e = told (onward t n) e
+  step-onward t n e = passed-by (onward t n) e
 
   -- a job is done at its last six bytes
   pub step-done : (n : ℕ) → step s bs ≡ done n → length bs ≡ 6
-  step-done n e = told (done n) e
+  step-done n e = passed-by (done n) e
 
   -- a refusal's place is in the job, or at its end
   pub step-stop : (number i : ℕ) → step s bs ≡ stop number i → i ≤ length bs
-  step-stop number i e = told (stop number i) e
+  step-stop number i e = passed-by (stop number i) e
 
 -- where the job ends
 pub step-nil : (s : State) → step s [] ≡ stop 24 0

@@ -10,17 +10,17 @@ use lib.Dec.{eqb, leb, ltb}
 use lib.ListN.{length, drop, length-append}
 use lib.Seq.{drop-append-seam, drop-at}
 use Rattle.row.specs.Dots.{dotAt}
-use Rattle.row.specs.Spare.{spareClear}
+use Rattle.row_runs.specs.Spare.{spareClear}
 use Rattle.row.specs.Counts.{joined}
 use Rattle.row.proofs.Dots.{Bytes, row-is}
-use Rattle.row.proofs.Spare.{spare-is}
+use Rattle.row_runs.proofs.Spare.{spare-is}
 use Rattle.gdi_jobs.specs.Commands.{Command, dotsOf}
 use Rattle.gdi_jobs.specs.Groups.{group-cases, pageHead, headBytes, fits, admitted, fields, group, pageEndBytes, documentEndBytes}
 use Rattle.gdi_jobs.specs.Pages.{toBlock, toEnd, inGap, next}
 use Rattle.gdi_jobs.specs.Jobs.{between, inPage, onward, step, stepBetween, stepInPage, longest, walk, jobAnswer, pages}
-use Rattle.gdi_jobs.specs.Lines.{lineDot, rowLength, lineRow, Line, line, withCommand, lineFrom, lineAt, rowAfter, nextLine, afterPage, answerOf}
+use Rattle.gdi_jobs.specs.Lines.{lineDot, lineBytes, lineRow, Line, line, withCommand, lineFrom, lineAt, rowAfter, nextLine, afterPage, answerOf}
 use Rattle.gdi_jobs.specs.Rows.{runsFrom, runs, longestRun, commandBytes, blocks, blockBytes, rowBytes}
-use Rattle.gdi_jobs.specs.Writers.{Writing, writes, refuses, put, PageHead, pageHeadBytes, pageHeadWriting, rowWriting}
+use Rattle.gdi_jobs.specs.Writers.{Writing, writes, refuses, inRoom, PageHead, pageHeadBytes, pageHeadWriting, rowWriting}
 use Rattle.gdi_jobs.specs.ReadingBack.{RowReadsBack, TakesRow, ReadsRow, Page, All, none, more, TakesPage, rowsBytes, pageBytes, jobBytes, ReadsRows, no-more, one-more, WrittenJob}
 use Rattle.gdi_jobs.proofs.Groups.{never, admitted-is, fields-is}
 use Rattle.gdi_jobs.proofs.Jobs.{walk-onward, walk-done, head-passed}
@@ -149,16 +149,16 @@ row-line width row rest st p h = go (runs width row) (runs-sum (dotAt row) 0 wid
 -- what the writer asks of a row
 pub record Taken (width : ℕ) (row : List ℕ) : Type 0 where
   pub wide : admitted width ≡ true
-  pub long : length row ≡ rowLength width
+  pub long : length row ≡ lineBytes width
   pub clear : spareClear row width ≡ true
 
 pub row-taken : (width : ℕ) (row : List ℕ) → TakesRow width row → Taken width row
 unfolding rowWriting
 row-taken width row t =
     let h =
-    go (admitted width) (eqb (length row) (rowLength width)) (spareClear row width) (ltb 16383 (longestRun (runs width row)))
-    (put (rowBytes width row) (length (rowBytes width row))) (rowBytes width row) (t .written) in
-    record { wide = h .0; long = eqb-true (length row) (rowLength width) (h .1 .0); clear = h .1 .1 }
+    go (admitted width) (eqb (length row) (lineBytes width)) (spareClear row width) (ltb 16383 (longestRun (runs width row)))
+    (inRoom (rowBytes width row) (length (rowBytes width row))) (rowBytes width row) (t .written) in
+    record { wide = h .0; long = eqb-true (length row) (lineBytes width) (h .1 .0); clear = h .1 .1 }
   where
     go : (a l s r : Bool) (w : Writing) (bs : List ℕ)
         → cond (not a) (refuses 27 0) (cond (not l) (refuses 27 0) (cond (not s) (refuses 27 0) (cond r (refuses 28 0) w))) ≡ writes bs
@@ -172,18 +172,18 @@ row-taken width row t =
 runs-row : (width : ℕ) (row : List ℕ) → Bytes row → Taken width row → lineRow width (runs width row) ≡ row
 unfolding lineRow runs
 runs-row width row bytes t =
-    sym (row-is (rowLength width) (λ f. ltb f width && lineDot (runsFrom (dotAt row) 0 width) f) row bytes (t .long) (λ f l. go f (decLt f width)))
+    sym (row-is (lineBytes width) (λ f. ltb f width && lineDot (runsFrom (dotAt row) 0 width) f) row bytes (t .long) (λ f l. go f (decLt f width)))
   where
     go : (f : ℕ) → Dec (f < width) → dotAt row f ≡ (ltb f width && lineDot (runsFrom (dotAt row) 0 width) f)
     go f (yes h) = rw (lt-ltb f width h) (sym (runs-dot (dotAt row) 0 width f h ∙ ap (dotAt row) (omega arith)))
     go f (no h) = rw (le-ltb f width (omega arith)) (spare-is row width .holds (t .clear) f (omega arith))
 
 -- what is read at a place of a job, where none of width, buffer, job and offset is refused
-pub line-at : (job : List ℕ) (offset left width n : ℕ) → admitted width ≡ true → n ≡ rowLength width → length job ≤ longest → offset ≤ length job
+pub line-at : (job : List ℕ) (offset left width n : ℕ) → admitted width ≡ true → n ≡ lineBytes width → length job ≤ longest → offset ≤ length job
     → lineAt job offset left width n ≡ lineFrom width false 0 left 0 offset (drop offset job)
 unfolding lineAt
 line-at job offset left width n a e l h =
-    rw (a, eq-eqb n (rowLength width) e, le-ltb longest (length job) l, le-ltb (length job) offset h) refl
+    rw (a, eq-eqb n (lineBytes width) e, le-ltb longest (length job) l, le-ltb (length job) offset h) refl
 
 pub row-reads-back : RowReadsBack
 unfolding RowReadsBack rowAfter
@@ -212,7 +212,7 @@ head-group h rest e =
 -- and the writer takes only a head that may hold its numbers
 head-taken : (h : PageHead) → pageHeadWriting h 21 ≡ writes (pageHeadBytes h) → fields (h .width) (h .height) (h .toner) ≡ true
 unfolding pageHeadWriting
-head-taken h e = go (fields (h .width) (h .height) (h .toner)) (put (pageHeadBytes h) 21) e
+head-taken h e = go (fields (h .width) (h .height) (h .toner)) (inRoom (pageHeadBytes h) 21) e
   where
     go : (t : Bool) (w : Writing) → cond t w (refuses 22 0) ≡ writes (pageHeadBytes h) → t ≡ true
     go true w e = refl
@@ -308,11 +308,11 @@ rows-read job width (row ∷ rows) (more t ts) front rest offset to l e f g =
 
 -- the page's end that stands in a job after `front` is read
 end-read : (job : List ℕ) (width : ℕ) (front rest : List ℕ) (end : ℕ) → admitted width ≡ true → length job ≤ longest
-    → job ≡ front ++ (pageEndBytes ++ rest) → length front ≡ end → answerOf (lineAt job end 0 width (rowLength width)) ≡ afterPage (end + 6) 0
+    → job ≡ front ++ (pageEndBytes ++ rest) → length front ≡ end → answerOf (lineAt job end 0 width (lineBytes width)) ≡ afterPage (end + 6) 0
 end-read job width front rest end a l e f =
     let there : end ≤ length job = omega (arith, ap length e, length-append front (pageEndBytes ++ rest)) in
     ap answerOf
-    (line-at job end 0 width (rowLength width) a refl l there
+    (line-at job end 0 width (lineBytes width) a refl l there
     ∙ ap (lineFrom width false 0 0 0 end) (ap (drop end) e ∙ drop-at front (pageEndBytes ++ rest) end f)
     ∙ line-end width false 0 0 end (pageEndBytes ++ rest) (next-page-end rest false))
 

@@ -12,7 +12,7 @@ use lib.Seq.{drop-drop}
 use Rattle.gdi_jobs.specs.Groups.{Group, cut, pageHead, wrongPageHead, block, pageEnd, documentEnd, unknown, headBytes, admitted, group, group-cases}
 use Rattle.gdi_jobs.specs.Pages.{Next, toBlock, toEnd, toCommand, fault, next}
 use Rattle.gdi_jobs.specs.Jobs.{State, between, inPage, done, stop, stepBetween, stepInPage, step, longest, pages, refused, walk, walkHead, jobAnswer}
-use Rattle.gdi_jobs.specs.Lines.{rowLength, lineFrom, lineAt, nextLine, afterPage, answerOf}
+use Rattle.gdi_jobs.specs.Lines.{lineBytes, lineFrom, lineAt, nextLine, afterPage, answerOf}
 use Rattle.gdi_jobs.specs.ReadingThrough.{ReadsPage, the-end, one-line, ReadsPages, no-page, one-page, ReadThrough}
 use Rattle.gdi_jobs.proofs.Groups.{never, group-long, group-head, admitted-is}
 use Rattle.gdi_jobs.proofs.Pages.{next-block, next-end, next-full}
@@ -89,8 +89,8 @@ module _ (n width height : ℕ) where
 module _ (job : List ℕ) (short : length job ≤ longest) (k : ℕ) where
   -- what the reader answers at a place of the job
   read-at : (offset left width : ℕ) → admitted width ≡ true → offset ≤ length job
-      → answerOf (lineAt job offset left width (rowLength width)) ≡ answerOf (lineFrom width false 0 left 0 offset (drop offset job))
-  read-at offset left width a h = ap answerOf (line-at job offset left width (rowLength width) a refl short h)
+      → answerOf (lineAt job offset left width (lineBytes width)) ≡ answerOf (lineFrom width false 0 left 0 offset (drop offset job))
+  read-at offset left width a h = ap answerOf (line-at job offset left width (lineBytes width) a refl short h)
 
   -- so many lines are read from a place on and then the page end, and the walk goes on after it
   record ReadTo (n width lines offset left : ℕ) : Type 0 where
@@ -101,7 +101,7 @@ module _ (job : List ℕ) (short : length job ≤ longest) (k : ℕ) where
     walks : walk (between (n + 1)) 0 to (drop to job) ≡ pages k
 
   line-then : {n width lines offset left offset′ left′ : ℕ} → offset ≤ offset′
-      → answerOf (lineAt job offset left width (rowLength width)) ≡ nextLine offset′ left′ → ReadTo n width lines offset′ left′
+      → answerOf (lineAt job offset left width (lineBytes width)) ≡ nextLine offset′ left′ → ReadTo n width lines offset′ left′
       → ReadTo n width (suc lines) offset left
   line-then h e r = record { to = r .to; after = omega (arith, r .after); there = r .there; reads = one-line e (r .reads); walks = r .walks }
 

@@ -11,7 +11,7 @@ use lib.ListN.{length, length-append}
 use Rattle.row.specs.Dots.{dotAt}
 use Rattle.row.specs.Counts.{joined}
 use Rattle.gdi_jobs.specs.Commands.{Command, run, dotsOf}
-use Rattle.gdi_jobs.specs.Lines.{rowLength}
+use Rattle.gdi_jobs.specs.Lines.{lineBytes}
 use Rattle.gdi_jobs.specs.Rows.{runs, commandBytes, blocks, blockBytes, rowBytes}
 use Rattle.gdi_jobs.specs.Writers.{rowWriting}
 use Rattle.gdi_jobs.specs.ReadingBack.{All, none, more}
@@ -78,7 +78,7 @@ room-for-row width row room t h =
     let fits : length (rowBytes width row) ≤ room = omega (arith, row-within width row (wide .0)) in
     rw (
       taken .wide,
-      eq-eqb (length row) (rowLength width) (taken .long),
+      eq-eqb (length row) (lineBytes width) (taken .long),
       taken .clear,
       no-run-too-long width row (taken .wide),
       le-leb (length (rowBytes width row)) room fits,

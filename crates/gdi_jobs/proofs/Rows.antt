@@ -9,10 +9,10 @@ use borrow.Author.Tests.{eq-eqb, ne-eqb, lt-ltb, le-ltb, le-leb, lt-leb}
 use lib.Dec.{leb, ltb}
 use lib.ListN.{length, drop, length-append}
 use Rattle.row.specs.Dots.{bit, dotAt}
-use Rattle.row.specs.Runs.{runEnd}
+use Rattle.row_runs.specs.Runs.{runEnd}
 use Rattle.truth.proofs.Tests.{ltb-is, is-same}
 use Rattle.row.proofs.Dots.{bit-lt}
-use Rattle.row.proofs.Runs.{run-end-le, run-end-past, run-like, run-differs}
+use Rattle.row_runs.proofs.Runs.{run-end-le, run-end-past, run-like, run-differs}
 use Rattle.gdi_jobs.specs.Commands.{Command, run, dotsOf, blackBit, command}
 use Rattle.gdi_jobs.specs.Groups.{admitted, block, fits, group}
 use Rattle.gdi_jobs.specs.Pages.{toCommand, next}

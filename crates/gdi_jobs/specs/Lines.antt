@@ -20,12 +20,12 @@ lineDot [] f = false
 lineDot (run black n ∷ cs) f = cond (ltb f n) black (lineDot cs (f - n))
 
 -- a row has width / 8 bytes, rounded up
-unfoldable pub rowLength : ℕ → ℕ
-rowLength width = (width + 7) / 8
+unfoldable pub lineBytes : ℕ → ℕ
+lineBytes width = (width + 7) / 8
 
 -- the row of a line: cropped at the width, spare bits 0
 unfoldable pub lineRow : ℕ → List Command → List ℕ
-lineRow width cs = rowOf (rowLength width) (λ f. ltb f width && lineDot cs f)
+lineRow width cs = rowOf (lineBytes width) (λ f. ltb f width && lineDot cs f)
 
 -- ---- the commands
 
@@ -66,7 +66,7 @@ lineFrom width started sum left zero p (b ∷ bs) =
 unfoldable pub lineAt : (job : List ℕ) (offset left width n : ℕ) → Line
 lineAt job offset left width n =
     cond (not (admitted width)) (refused 27 0)
-    (cond (not (eqb n (rowLength width))) (refused 27 0)
+    (cond (not (eqb n (lineBytes width))) (refused 27 0)
     (cond (ltb longest (length job)) (refused 1 0)
     (cond (ltb (length job) offset) (refused 24 (length job))
     (lineFrom width false 0 left 0 offset (drop offset job)))))
@@ -127,10 +127,10 @@ pub record LineCases : Type 0 where
   pub answer-refused : answerOf (refused 24 7) ≡ refusal 24 7
 
 pub line-cases : LineCases
-unfolding lineAt lineFrom rowAfter lineRow rowLength lineDot byteOf rowOf next command group fits admitted fields
+unfolding lineAt lineFrom rowAfter lineRow lineBytes lineDot byteOf rowOf next command group fits admitted fields
 line-cases = search
 
 -- a job over the limit, whatever it holds and whatever the place
 pub too-long : (job : List ℕ) (offset left : ℕ) → ltb longest (length job) ≡ true → lineAt job offset left 3 1 ≡ refused 1 0
-unfolding lineAt rowLength admitted
+unfolding lineAt lineBytes admitted
 too-long job offset left e = rw e refl

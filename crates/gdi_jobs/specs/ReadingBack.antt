@@ -6,11 +6,11 @@ use Prim.Native.Nat.{ℕ, zero, suc, _+_, _<_, _≤_}
 use lib.Dec.{lit<}
 use lib.ListN.{length, getD}
 use Rattle.row.specs.Dots.{dotIn, dotAt}
-use Rattle.row.specs.Spare.{clearFrom, spareClear}
+use Rattle.row_runs.specs.Spare.{clearFrom, spareClear}
 use Rattle.row.specs.Counts.{joined}
 use Rattle.gdi_jobs.specs.Groups.{headBytes, pageEndBytes, documentEndBytes, admitted, fields, examplePage}
 use Rattle.gdi_jobs.specs.Jobs.{longest, jobAnswer, pages, blockOf}
-use Rattle.gdi_jobs.specs.Lines.{rowLength, lineAt, rowAfter, LineAnswer, nextLine, afterPage, answerOf}
+use Rattle.gdi_jobs.specs.Lines.{lineBytes, lineAt, rowAfter, LineAnswer, nextLine, afterPage, answerOf}
 use Rattle.gdi_jobs.specs.Rows.{runsFrom, runs, longestRun, commandBytes, blocks, blockBytes, rowBytes}
 use Rattle.gdi_jobs.specs.Writers.{writes, PageHead, pageHeadBytes, pageHeadWriting, rowWriting, exampleHead}
 
@@ -83,7 +83,7 @@ pub record WrittenJob : Type 0 where
       let end = start + length (rowsBytes p) in
       length job ≤ longest
       → ReadsRows job width start 0 (p .rows) end 0
-      × (answerOf (lineAt job end 0 width (rowLength width)) ≡ afterPage (end + 6) 0)
+      × (answerOf (lineAt job end 0 width (lineBytes width)) ≡ afterPage (end + 6) 0)
 
 -- ---- the premises are met
 
@@ -104,7 +104,7 @@ pub record BackCases : Type 0 where
   pub a-job : jobBytes (twoRows ∷ []) ≡ headBytes ++ (examplePage ++ (blockOf 1 ++ (0x43 ∷ []) ++ blockOf 1 ++ (0x03 ∷ []) ++ pageEndBytes) ++ documentEndBytes)
 
 pub back-cases : BackCases
-unfolding jobBytes pageBytes rowsBytes joined pageHeadBytes pageHeadWriting rowWriting rowLength runs runsFrom longestRun commandBytes blocks blockBytes rowBytes admitted fields spareClear clearFrom dotAt dotIn
+unfolding jobBytes pageBytes rowsBytes joined pageHeadBytes pageHeadWriting rowWriting lineBytes runs runsFrom longestRun commandBytes blocks blockBytes rowBytes admitted fields spareClear clearFrom dotAt dotIn
 back-cases =
     record {
       a-page = record {

@@ -8,13 +8,13 @@ use Rattle.gdi_jobs.specs.Commands.{command}
 use Rattle.gdi_jobs.specs.Groups.{fits, codes, headBytes, admitted, fields, pageHead, documentEnd, group, examplePage, pageEndBytes, documentEndBytes}
 use Rattle.gdi_jobs.specs.Pages.{next}
 use Rattle.gdi_jobs.specs.Jobs.{jobAnswer, pages, blockOf}
-use Rattle.gdi_jobs.specs.Lines.{rowLength, lineFrom, lineAt, nextLine, afterPage, answerOf}
+use Rattle.gdi_jobs.specs.Lines.{lineBytes, lineFrom, lineAt, nextLine, afterPage, answerOf}
 
 -- the line reader, called again and again from the place (offset, left) on at the place that it answered before, with a row buffer of the right length,
 -- reads just so many lines and then the page end; after it stands the place `to`
 pub data ReadsPage (job : List ℕ) (width : ℕ) : (lines offset left to : ℕ) → Type 0 where
-  the-end : {offset left to : ℕ} → answerOf (lineAt job offset left width (rowLength width)) ≡ afterPage to 0 → ReadsPage job width 0 offset left to
-  one-line : {lines offset left offset′ left′ to : ℕ} → answerOf (lineAt job offset left width (rowLength width)) ≡ nextLine offset′ left′
+  the-end : {offset left to : ℕ} → answerOf (lineAt job offset left width (lineBytes width)) ≡ afterPage to 0 → ReadsPage job width 0 offset left to
+  one-line : {lines offset left offset′ left′ to : ℕ} → answerOf (lineAt job offset left width (lineBytes width)) ≡ nextLine offset′ left′
       → ReadsPage job width lines offset′ left′ to → ReadsPage job width (suc lines) offset left to
 
 -- n pages from place p on: a page head stands there, height lines are read from after it on, and the others begin after its page end. After the last
@@ -44,5 +44,5 @@ pub record ThroughCases : Type 0 where
   pub another : ReadsPages anotherJob 1 86
 
 pub through-cases : ThroughCases
-unfolding lineAt lineFrom rowLength next command group fits codes headBytes admitted fields
+unfolding lineAt lineFrom lineBytes next command group fits codes headBytes admitted fields
 through-cases = record { another = one-page refl (one-line refl (one-line refl (the-end refl))) (no-page refl refl) }

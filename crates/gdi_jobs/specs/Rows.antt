@@ -72,6 +72,8 @@ pub record RowCases : Type 0 where
   pub white-64 : commandBytes (run false 64) ≡ 0x80 ∷ 0x01 ∷ []
   pub black-1649 : commandBytes (run true 1649) ≡ 0xF1 ∷ 0x19 ∷ []
   pub most : commandBytes (run true 16383) ≡ 0xFF ∷ 0xFF ∷ []
+  -- 16,383 dots of one colour are one command
+  pub most-of-one-colour : runsFrom (λ f. true) 0 16383 ≡ run true 16383 ∷ []
   pub a-row : rowBytes 3 (0xE0 ∷ []) ≡ 0x12 ∷ 0x00 ∷ 0x01 ∷ 0x00 ∷ 0x00 ∷ 0x00 ∷ 0x43 ∷ []
   pub in-order : blocks [] (run true 1 ∷ run false 2 ∷ []) ≡ (0x41 ∷ 0x02 ∷ []) ∷ []
   pub full-block : map length (blocks [] (turns 255)) ≡ 255 ∷ []
@@ -94,6 +96,7 @@ row-cases =
       white-64 = refl;
       black-1649 = refl;
       most = refl;
+      most-of-one-colour = refl;
       a-row = refl;
       in-order = refl;
       full-block = refl;

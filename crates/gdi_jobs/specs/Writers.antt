@@ -7,10 +7,10 @@ use lib.Dec.{eqb, leb, ltb}
 use lib.ListN.{length, drop}
 use Rattle.row.specs.Dots as dots
 use Rattle.row.specs.Dots.{dotAt}
-use Rattle.row.specs.Spare.{clearFrom, spareClear}
+use Rattle.row_runs.specs.Spare.{clearFrom, spareClear}
 use Rattle.row.specs.Counts.{joined}
 use Rattle.gdi_jobs.specs.Groups.{codes, headBytes, pageEndBytes, documentEndBytes, admitted, fields, examplePage}
-use Rattle.gdi_jobs.specs.Lines.{rowLength}
+use Rattle.gdi_jobs.specs.Lines.{lineBytes}
 use Rattle.gdi_jobs.specs.Rows.{runsFrom, runs, longestRun, commandBytes, blocks, blockBytes, rowBytes}
 
 -- the bytes that are written, or a refusal
@@ -19,19 +19,19 @@ pub data Writing : Type 0 where
   refuses : (number place : ℕ) → Writing
 
 -- 27 where the output has fewer bytes than are to be written; it has `room` bytes
-abbrev pub put : List ℕ → (room : ℕ) → Writing
-put bs room = cond (leb (length bs) room) (writes bs) (refuses 27 0)
+abbrev pub inRoom : List ℕ → (room : ℕ) → Writing
+inRoom bs room = cond (leb (length bs) room) (writes bs) (refuses 27 0)
 
 -- ---- heads and ends
 
 unfoldable pub headWriting : (room : ℕ) → Writing
-headWriting room = put headBytes room
+headWriting room = inRoom headBytes room
 
 unfoldable pub pageEndWriting : (room : ℕ) → Writing
-pageEndWriting room = put pageEndBytes room
+pageEndWriting room = inRoom pageEndBytes room
 
 unfoldable pub documentEndWriting : (room : ℕ) → Writing
-documentEndWriting room = put documentEndBytes room
+documentEndWriting room = inRoom documentEndBytes room
 
 -- what a page head tells
 pub record PageHead : Type 0 where
@@ -59,7 +59,7 @@ pageHeadBytes h =
 
 -- 22 for width, height or toner, then 27 for the output
 unfoldable pub pageHeadWriting : PageHead → (room : ℕ) → Writing
-pageHeadWriting h room = cond (fields (h .width) (h .height) (h .toner)) (put (pageHeadBytes h) room) (refuses 22 0)
+pageHeadWriting h room = cond (fields (h .width) (h .height) (h .toner)) (inRoom (pageHeadBytes h) room) (refuses 22 0)
 
 -- ---- a row
 
@@ -67,10 +67,10 @@ pageHeadWriting h room = cond (fields (h .width) (h .height) (h .toner)) (put (p
 unfoldable pub rowWriting : (width : ℕ) (row : List ℕ) (room : ℕ) → Writing
 rowWriting width row room =
     cond (not (admitted width)) (refuses 27 0)
-    (cond (not (eqb (length row) (rowLength width))) (refuses 27 0)
+    (cond (not (eqb (length row) (lineBytes width))) (refuses 27 0)
     (cond (not (spareClear row width)) (refuses 27 0)
     (cond (ltb 16383 (longestRun (runs width row))) (refuses 28 0)
-    (put (rowBytes width row) room))))
+    (inRoom (rowBytes width row) room))))
 
 -- ---- paper
 
@@ -135,5 +135,5 @@ pub record WriterCases : Type 0 where
   pub stays : outputAfter (refuses 27 0) (1 ∷ 2 ∷ []) ≡ 1 ∷ 2 ∷ []
 
 pub writer-cases : WriterCases
-unfolding headWriting pageEndWriting documentEndWriting pageHeadWriting pageHeadBytes rowWriting linefillOf rowLength runs runsFrom longestRun commandBytes blocks blockBytes rowBytes joined codes headBytes admitted fields spareClear clearFrom dotAt dots.dotIn
+unfolding headWriting pageEndWriting documentEndWriting pageHeadWriting pageHeadBytes rowWriting linefillOf lineBytes runs runsFrom longestRun commandBytes blocks blockBytes rowBytes joined codes headBytes admitted fields spareClear clearFrom dotAt dots.dotIn
 writer-cases = search

@@ -18,9 +18,9 @@ use Rattle.row.proofs.Stretches.{filled-in, filled-before}
 use Rattle.gdi_jobs.specs.Commands.{Command}
 use Rattle.gdi_jobs.specs.Groups.{admitted}
 use Rattle.gdi_jobs.specs.Jobs.{longest}
-use Rattle.gdi_jobs.specs.Lines.{Line, line, pageEnd, refused, lineDot, rowLength, lineRow, lineAt, rowAfter, LineAnswer, nextLine, refusal, answerOf}
+use Rattle.gdi_jobs.specs.Lines.{Line, line, pageEnd, refused, lineDot, lineBytes, lineRow, lineAt, rowAfter, LineAnswer, nextLine, refusal, answerOf}
 use Rattle.gdi_jobs.proofs.Groups.{never, admitted-is}
-use Rattle.gdi_read.specs.Answers.{told}
+use Rattle.gdi_read.specs.Answers.{lineReadAs}
 use Rattle.gdi_read.specs.declared.LineRead as code
 use Rattle.gdi_read.specs.declared.LineRead.the-variants as variants
 use Rattle.gdi_read.specs.Functions.{Passed}
@@ -36,23 +36,23 @@ module _ (job : List ℕ) (offset left width n : ℕ) where
 
   module _ (w : (1 ≤ width) × (width ≤ 16383)) where
     pub row-refused : (n ≡ (width + 7) / 8 → ⊥) → lineAt job offset left width n ≡ refused 27 0
-    unfolding lineAt rowLength
+    unfolding lineAt lineBytes
     row-refused h = rw (admitted-is width .said w, ne-eqb n ((width + 7) / 8) h) refl
 
     module _ (r : n ≡ (width + 7) / 8) where
       pub job-refused : longest < length job → lineAt job offset left width n ≡ refused 1 0
-      unfolding lineAt rowLength
+      unfolding lineAt lineBytes
       job-refused h = rw (admitted-is width .said w, eq-eqb n ((width + 7) / 8) r, lt-ltb longest (length job) h) refl
 
       module _ (l : length job ≤ longest) where
         pub offset-refused : length job < offset → lineAt job offset left width n ≡ refused 24 (length job)
-        unfolding lineAt rowLength
+        unfolding lineAt lineBytes
         offset-refused h =
             rw (admitted-is width .said w, eq-eqb n ((width + 7) / 8) r, le-ltb longest (length job) l, lt-ltb (length job) offset h) refl
 
         -- none
         pub line-there : offset ≤ length job → lineAt job offset left width n ≡ lineOn job width false 0 left offset
-        unfolding lineAt rowLength
+        unfolding lineAt lineBytes
         line-there h =
             rw (admitted-is width .said w, eq-eqb n ((width + 7) / 8) r, le-ltb longest (length job) l, le-ltb (length job) offset h) refl
 
@@ -71,7 +71,7 @@ abbrev others : List ℕ
 others = 1 ∷ 2 ∷ []
 
 -- at which the row stays
-stays : (width : ℕ) (l : Line) (held : List ℕ) (r : code.LineRead) → OneOf others (tagOf the-type r) → told r ≡ answerOf l → held ≡ rowAfter width l held
+stays : (width : ℕ) (l : Line) (held : List ℕ) (r : code.LineRead) → OneOf others (tagOf the-type r) → lineReadAs r ≡ answerOf l → held ≡ rowAfter width l held
 unfolding rowAfter
 stays width (line cs p left) held (variants.Line q k) o e = absurd (miss others 0 tt o)
 stays width (line cs p left) held (variants.PageEnd q k) o e = never (cc)
@@ -80,20 +80,20 @@ stays width (pageEnd p) held r o e = refl
 stays width (refused number p) held r o e = refl
 
 -- the first pass gives r
-module _ (width : ℕ) (l k : Line) (held row : List ℕ) (r : code.LineRead) (e : l ≡ k) (first : Passed width k false held (told r) row) where
-  told-so : told r ≡ answerOf l
+module _ (width : ℕ) (l k : Line) (held row : List ℕ) (r : code.LineRead) (e : l ≡ k) (first : Passed width k false held (lineReadAs r) row) where
+  told-so : lineReadAs r ≡ answerOf l
   told-so = first .answer ∙ ap answerOf (sym e)
 
   -- which is no line
-  pub other-so : OneOf others (tagOf the-type r) → Answered width l held (told r) row
+  pub other-so : OneOf others (tagOf the-type r) → Answered width l held (lineReadAs r) row
   other-so o = (told-so, first .kept refl ∙ stays width l held r o told-so)
 
   -- which is a line, so that the second pass writes it, and then what is past the width is cleared
   pub line-so : (q left : ℕ) (a : LineAnswer) (written row′ : List ℕ) → r ≡ variants.Line q left → Passed width k true row a written
       → length written ≡ (width + 7) / 8 → row′ ≡ rowOf (length written) (filled width (8 * length written) false (dotAt written))
       → Answered width l held (nextLine q left) row′
-  unfolding rowAfter lineRow rowLength
-  line-so q left a written row′ y second size z = (ap told (sym y) ∙ told-so, rw e (go k (second .dots refl) (ap told (sym y) ∙ first .answer)))
+  unfolding rowAfter lineRow lineBytes
+  line-so q left a written row′ y second size z = (ap lineReadAs (sym y) ∙ told-so, rw e (go k (second .dots refl) (ap lineReadAs (sym y) ∙ first .answer)))
     where
       clear : (cs : List Command) → ((f : ℕ) → f < width → dotAt written f ≡ lineDot cs f) → (f : ℕ) → Dec (f < width) → f < 8 * length written
           → filled width (8 * length written) false (dotAt written) f ≡ (ltb f width && lineDot cs f)

@@ -22,27 +22,27 @@ use Rattle.gdi_parse.specs.declared.Next.the-variants.{ToBlock, ToEnd, ToComman
 use Rattle.gdi_jobs.proofs.Groups.{never}
 use Rattle.gdi_jobs.proofs.Pages.{next-block, next-end, next-command, next-command-dots, next-fault}
 use Rattle.gdi_jobs.proofs.Lines.{line-block, line-end, line-last, line-command, line-fault}
-use Rattle.gdi_read.specs.Functions.{put, Passed}
+use Rattle.gdi_read.specs.Functions.{writtenStretch, Passed}
 
 -- ---- a stretch put
 
 module _ (write : Bool) (from to : ℕ) (black : Bool) (row : List ℕ) where
   -- it is written
-  pub put-written : write ≡ true → put write from to black row ≡ rowOf (length row) (filled from to black (dotAt row))
-  unfolding put
+  pub put-written : write ≡ true → writtenStretch write from to black row ≡ rowOf (length row) (filled from to black (dotAt row))
+  unfolding writtenStretch
   put-written w = rw w refl
 
   -- it is not
-  pub put-left : write ≡ false → put write from to black row ≡ row
-  unfolding put
+  pub put-left : write ≡ false → writtenStretch write from to black row ≡ row
+  unfolding writtenStretch
   put-left w = rw w refl
 
   -- the row's length stays
-  pub put-length : (row′ : List ℕ) → row′ ≡ put write from to black row → length row′ ≡ length row
-  unfolding put
+  pub put-length : (row′ : List ℕ) → row′ ≡ writtenStretch write from to black row → length row′ ≡ length row
+  unfolding writtenStretch
   put-length row′ e = ap length e ∙ go write
     where
-      go : (t : Bool) → length (put t from to black row) ≡ length row
+      go : (t : Bool) → length (writtenStretch t from to black row) ≡ length row
       go true = length-rowOf (length row) (filled from to black (dotAt row))
       go false = refl
 
@@ -160,7 +160,7 @@ module _ {job : List ℕ} {offset left₀ width : ℕ} {held : List ℕ} {write 
           )
 
       -- its dots are put
-      module _ (row′ : List ℕ) (z : row′ ≡ put write sum (sum + n) black row) where
+      module _ (row′ : List ℕ) (z : row′ ≡ writtenStretch write sum (sum + n) black row) where
         still-kept : write ≡ false → row′ ≡ held
         still-kept t = z ∙ put-left write sum (sum + n) black row t ∙ w .kept t
 

@@ -10,8 +10,8 @@ use Rattle.gdi_jobs.specs.Commands.{Command}
 use Rattle.gdi_jobs.specs.Lines.{Line, line, lineDot, LineAnswer, answerOf}
 
 -- a row with the dots from `from` up to, not including, `to` filled where it is to be written
-unfoldable pub put : (write : Bool) (from to : ℕ) (black : Bool) → List ℕ → List ℕ
-put write from to black row = cond write (rowOf (length row) (filled from to black (dotAt row))) row
+unfoldable pub writtenStretch : (write : Bool) (from to : ℕ) (black : Bool) → List ℕ → List ℕ
+writtenStretch write from to black row = cond write (rowOf (length row) (filled from to black (dotAt row))) row
 
 -- A pass over the line l, with a row that is `held` before and `row` after: its answer a; the row stays where it is not to be written; else it has
 -- the dots of the line below the width, if l is a line.

@@ -4,8 +4,8 @@ ghost use mathlib.Core.Bool.{false};
 ghost use Prim.Native.Nat.{_*_, _≤_};
 ghost use lib.ListN.{length, drop};
 ghost use Rattle.gdi_jobs.specs.Lines.{lineFrom, lineAt, rowAfter, answerOf};
-ghost use Rattle.gdi_read.specs.Answers.{told};
-ghost use Rattle.gdi_read.specs.Functions.{put, Passed};
+ghost use Rattle.gdi_read.specs.Answers.{lineReadAs};
+ghost use Rattle.gdi_read.specs.Functions.{writtenStretch, Passed};
 use gdi_jobs::LONGEST;
 use gdi_jobs::WIDEST;
 use gdi_parse::Next;
@@ -21,7 +21,7 @@ pub enum LineRead {
 
 // Where `write` says so, gives the dots from `from` up to, not including, `to` the colour of a command.
 fn put_dots(row: &mut [u8], from: usize, to: usize, black: bool, write: bool)
-    ensures { λ _. ⌜ now (row .exit) ≡ put write from to black (now (row .entry)) ⌝ }
+    ensures { λ _. ⌜ now (row .exit) ≡ writtenStretch write from to black (now (row .entry)) ⌝ }
 {
     if write {
         fill(row, from, to, black);
@@ -38,7 +38,7 @@ fn line_pass(
     write: bool,
 ) -> LineRead
     requires { ⌜ (offset ≤ length (now job)) × (1 ≤ width) × (width ≤ 16383) × (width ≤ 8 * length (now row)) ⌝ }
-    ensures { λ r. ⌜ Passed width (lineFrom width false 0 left 0 offset (drop offset (now (job .entry)))) write (now (row .entry)) (told r) (now (row .exit)) ⌝ }
+    ensures { λ r. ⌜ Passed width (lineFrom width false 0 left 0 offset (drop offset (now (job .entry)))) write (now (row .entry)) (lineReadAs r) (now (row .exit)) ⌝ }
 {
     let mut at = offset;
     let mut rest = left;
@@ -70,7 +70,7 @@ fn line_pass(
 // Reads the line at the place (offset, left) of the job: `left` bytes of a block are left from byte `offset` on. `row` has width / 8 bytes, rounded
 // up, and holds the line's dots then; at a page end and after a refusal it is as it was.
 pub fn read_line(job: &[u8], offset: usize, left: usize, width: usize, row: &mut [u8]) -> LineRead
-    ensures { λ r. ⌜ told r ≡ answerOf (lineAt (now (job .entry)) offset left width (length (now (row .entry)))) ⌝ }
+    ensures { λ r. ⌜ lineReadAs r ≡ answerOf (lineAt (now (job .entry)) offset left width (length (now (row .entry)))) ⌝ }
     ensures { λ _. ⌜ now (row .exit) ≡ rowAfter width (lineAt (now (job .entry)) offset left width (length (now (row .entry)))) (now (row .entry)) ⌝ }
 {
     if width < 1 {

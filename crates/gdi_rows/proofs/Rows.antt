@@ -10,9 +10,9 @@ use borrow.Author.Tests.{lt-ltb, le-ltb, le-leb, lt-leb}
 use lib.Dec.{leb}
 use lib.ListN.{length, drop, length-append}
 use Rattle.row.specs.Dots.{dotAt, bit}
-use Rattle.row.specs.Runs.{runEnd}
+use Rattle.row_runs.specs.Runs.{runEnd}
 use Rattle.row.specs.Counts.{joined}
-use Rattle.row.proofs.Runs.{run-end-le, run-end-past}
+use Rattle.row_runs.proofs.Runs.{run-end-le, run-end-past}
 use Rattle.gdi_jobs.specs.Commands.{Command, run}
 use Rattle.gdi_jobs.specs.Rows.{runsFrom, runs, longestRun, commandBytes, blocks, blockBytes, rowBytes}
 use Rattle.gdi_jobs.proofs.Rows.{runs-first, runs-none}

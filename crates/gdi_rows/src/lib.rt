@@ -9,7 +9,7 @@ ghost use Rattle.row.specs.Dots.{bit};
 ghost use Rattle.gdi_jobs.specs.Commands.{run};
 ghost use Rattle.gdi_jobs.specs.Rows.{runs, longestRun, commandBytes, rowBytes};
 ghost use Rattle.gdi_jobs.specs.Writers.{rowWriting, answerOf, outputAfter};
-ghost use Rattle.gdi_write.specs.Answers.{told};
+ghost use Rattle.gdi_write.specs.Answers.{writtenAs};
 ghost use Rattle.gdi_rows.specs.Places.{putAt};
 use gdi_jobs::WIDEST;
 use gdi_write::Written;
@@ -112,7 +112,7 @@ fn put_runs(row: &[u8], width: usize, output: &mut [u8]) -> Size
     let mut from = 0;
     put_block_head(0, 0, output);
     while from < width {
-        let end = row::run_end(row, from, width);
+        let end = row_runs::run_end(row, from, width);
         let dots = end - from;
         let n = command_size(dots);
         block = block_for(block, n);
@@ -135,7 +135,7 @@ fn put_runs(row: &[u8], width: usize, output: &mut [u8]) -> Size
 // Puts a row of the given width, as a line, at the beginning of the output, and answers how many bytes the line has; the bytes of the output beyond
 // them stay. A refusal has a number and place 0, and then the output stays whole.
 pub fn write_row(width: usize, row: &[u8], output: &mut [u8]) -> Written
-    ensures { λ r. ⌜ told r ≡ answerOf (rowWriting width (now (row .entry)) (length (now (output .entry)))) ⌝ }
+    ensures { λ r. ⌜ writtenAs r ≡ answerOf (rowWriting width (now (row .entry)) (length (now (output .entry)))) ⌝ }
     ensures { λ _. ⌜ now (output .exit) ≡ outputAfter (rowWriting width (now (row .entry)) (length (now (output .entry)))) (now (output .entry)) ⌝ }
 {
     if width < 1 {
@@ -147,7 +147,7 @@ pub fn write_row(width: usize, row: &[u8], output: &mut [u8]) -> Written
     if row.len() != (width + 7) / 8 {
         return Written::Refused(27, 0);
     }
-    if !row::spare_clear(row, width) {
+    if !row_runs::spare_clear(row, width) {
         return Written::Refused(27, 0);
     }
     // No block fits one byte, so that nothing is put there: the line is only measured.

@@ -7,7 +7,7 @@ use borrow.Author.Tests.{le-leb, lt-leb}
 use lib.ListN.{length, drop}
 use Rattle.truth.proofs.Tests.{is-false}
 use Rattle.gdi_jobs.specs.Groups.{admitted, fields}
-use Rattle.gdi_jobs.specs.Writers.{Writing, writes, refuses, put, PageHead, pageHeadBytes, pageHeadWriting, WriteAnswer, wrote, refused, answerOf, outputAfter, linefillOf}
+use Rattle.gdi_jobs.specs.Writers.{Writing, writes, refuses, inRoom, PageHead, pageHeadBytes, pageHeadWriting, WriteAnswer, wrote, refused, answerOf, outputAfter, linefillOf}
 use Rattle.gdi_jobs.proofs.Groups.{admitted-is}
 use Rattle.gdi_write.specs.Paper.{command, fillAnswer}
 use Rattle.gdi_write.specs.Paper as paper
@@ -29,10 +29,10 @@ same-writing held e h = (h .0 ∙ ap answerOf e, h .1 ∙ ap (λ (x : Writing). 
 
 -- ---- room in the output
 
-pub put-short : (bytes : List ℕ) (room : ℕ) → room < length bytes → put bytes room ≡ refuses 27 0
+pub put-short : (bytes : List ℕ) (room : ℕ) → room < length bytes → inRoom bytes room ≡ refuses 27 0
 put-short bytes room h = rw (lt-leb _ _ h) refl
 
-pub put-whole : (bytes : List ℕ) (room : ℕ) → length bytes ≤ room → put bytes room ≡ writes bytes
+pub put-whole : (bytes : List ℕ) (room : ℕ) → length bytes ≤ room → inRoom bytes room ≡ writes bytes
 put-whole bytes room h = rw (le-leb _ _ h) refl
 
 -- ---- the width
@@ -54,6 +54,6 @@ pub page-refused : (h : PageHead) (room : ℕ) → fields (h .width) (h .height)
 unfolding pageHeadWriting
 page-refused h room e = rw e refl
 
-pub page-put : (h : PageHead) (room : ℕ) → fields (h .width) (h .height) (h .toner) ≡ true → put (pageHeadBytes h) room ≡ pageHeadWriting h room
+pub page-put : (h : PageHead) (room : ℕ) → fields (h .width) (h .height) (h .toner) ≡ true → inRoom (pageHeadBytes h) room ≡ pageHeadWriting h room
 unfolding pageHeadWriting
 page-put h room e = rw e refl

@@ -6,10 +6,10 @@ use Rattle.gdi_write.specs.declared.Written.the-variants.{Bytes, Refused
 use Rattle.gdi_write.specs.declared.Filled as code-filled
 use Rattle.gdi_write.specs.declared.Filled.the-variants as fills
 
-abbrev pub told : code-written.Written → writers.WriteAnswer
-told (Bytes n) = writers.wrote n
-told (Refused number place) = writers.refused number place
+abbrev pub writtenAs : code-written.Written → writers.WriteAnswer
+writtenAs (Bytes n) = writers.wrote n
+writtenAs (Refused number place) = writers.refused number place
 
-abbrev pub filled : code-filled.Filled → paper.FillAnswer
-filled (fills.Linefill n) = paper.command n
-filled (fills.Refused number place) = paper.refused number place
+abbrev pub filledAs : code-filled.Filled → paper.FillAnswer
+filledAs (fills.Linefill n) = paper.command n
+filledAs (fills.Refused number place) = paper.refused number place

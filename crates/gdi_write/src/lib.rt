@@ -3,9 +3,9 @@
 // stays whole.
 ghost use mathlib.Core.Path.{_≡_};
 ghost use lib.ListN.{length};
-ghost use Rattle.gdi_jobs.specs.Writers.{put, headWriting, pageEndWriting, documentEndWriting, pageHeadWriting, answerOf, outputAfter};
+ghost use Rattle.gdi_jobs.specs.Writers.{inRoom, headWriting, pageEndWriting, documentEndWriting, pageHeadWriting, answerOf, outputAfter};
 ghost use Rattle.gdi_write.specs.Paper.{a4, a5, letter, monarch, fillAnswer};
-ghost use Rattle.gdi_write.specs.Answers.{told, filled};
+ghost use Rattle.gdi_write.specs.Answers.{writtenAs, filledAs};
 use gdi_jobs::WIDEST;
 
 // The number of bytes that were written, or a refusal's number and place.
@@ -54,7 +54,7 @@ impl Paper {
 
     // The command of a white line of the paper's width, its first byte in the high byte.
     pub fn linefill(self) -> Filled
-        ensures { λ r. ⌜ filled r ≡ fillAnswer (self .width) ⌝ }
+        ensures { λ r. ⌜ filledAs r ≡ fillAnswer (self .width) ⌝ }
         ensures { λ _. do ⌜ a4 ≡ record { width = (← ⟦Paper::A4.width⟧ .entry); height = (← ⟦Paper::A4.height⟧ .entry); index = (← ⟦Paper::A4.index⟧ .entry) } ⌝ }
         ensures { λ _. do ⌜ a5 ≡ record { width = (← ⟦Paper::A5.width⟧ .entry); height = (← ⟦Paper::A5.height⟧ .entry); index = (← ⟦Paper::A5.index⟧ .entry) } ⌝ }
         ensures { λ _. do ⌜ letter ≡ record { width = (← ⟦Paper::LETTER.width⟧ .entry); height = (← ⟦Paper::LETTER.height⟧ .entry); index = (← ⟦Paper::LETTER.index⟧ .entry) } ⌝ }
@@ -72,8 +72,8 @@ impl Paper {
 
 // Puts all the bytes at the beginning of the output.
 fn put_all(bytes: &[u8], output: &mut [u8]) -> Written
-    ensures { λ r. ⌜ told r ≡ answerOf (put (now (bytes .entry)) (length (now (output .entry)))) ⌝ }
-    ensures { λ _. ⌜ now (output .exit) ≡ outputAfter (put (now (bytes .entry)) (length (now (output .entry)))) (now (output .entry)) ⌝ }
+    ensures { λ r. ⌜ writtenAs r ≡ answerOf (inRoom (now (bytes .entry)) (length (now (output .entry)))) ⌝ }
+    ensures { λ _. ⌜ now (output .exit) ≡ outputAfter (inRoom (now (bytes .entry)) (length (now (output .entry)))) (now (output .entry)) ⌝ }
 {
     if output.len() < bytes.len() {
         return Written::Refused(27, 0);
@@ -83,7 +83,7 @@ fn put_all(bytes: &[u8], output: &mut [u8]) -> Written
 
 // The head of a job.
 pub fn write_head(output: &mut [u8]) -> Written
-    ensures { λ r. ⌜ told r ≡ answerOf (headWriting (length (now (output .entry)))) ⌝ }
+    ensures { λ r. ⌜ writtenAs r ≡ answerOf (headWriting (length (now (output .entry)))) ⌝ }
     ensures { λ _. ⌜ now (output .exit) ≡ outputAfter (headWriting (length (now (output .entry)))) (now (output .entry)) ⌝ }
 {
     put_all(&gdi_jobs::HEAD, output)
@@ -91,7 +91,7 @@ pub fn write_head(output: &mut [u8]) -> Written
 
 // The end of a page.
 pub fn write_page_end(output: &mut [u8]) -> Written
-    ensures { λ r. ⌜ told r ≡ answerOf (pageEndWriting (length (now (output .entry)))) ⌝ }
+    ensures { λ r. ⌜ writtenAs r ≡ answerOf (pageEndWriting (length (now (output .entry)))) ⌝ }
     ensures { λ _. ⌜ now (output .exit) ≡ outputAfter (pageEndWriting (length (now (output .entry)))) (now (output .entry)) ⌝ }
 {
     put_all(&[0x13, 0, 0, 0, 0, 0], output)
@@ -99,7 +99,7 @@ pub fn write_page_end(output: &mut [u8]) -> Written
 
 // The end of a job.
 pub fn write_document_end(output: &mut [u8]) -> Written
-    ensures { λ r. ⌜ told r ≡ answerOf (documentEndWriting (length (now (output .entry)))) ⌝ }
+    ensures { λ r. ⌜ writtenAs r ≡ answerOf (documentEndWriting (length (now (output .entry)))) ⌝ }
     ensures { λ _. ⌜ now (output .exit) ≡ outputAfter (documentEndWriting (length (now (output .entry)))) (now (output .entry)) ⌝ }
 {
     put_all(&[0x14, 0, 0, 0, 0, 0], output)
@@ -116,7 +116,7 @@ pub fn write_page_head(
     toner: u8,
     output: &mut [u8],
 ) -> Written
-    ensures { λ r. ⌜ told r ≡ answerOf (pageHeadWriting
+    ensures { λ r. ⌜ writtenAs r ≡ answerOf (pageHeadWriting
         (record { tray = tray; width = width; height = height; format = format; paperType = «paper_type»; copies = copies; toner = toner })
         (length (now (output .entry)))) ⌝ }
     ensures { λ _. ⌜ now (output .exit) ≡ outputAfter (pageHeadWriting

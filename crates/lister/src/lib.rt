@@ -1,6 +1,6 @@
 // Listings: what the check answers for a sheet with an empty load, then each band of each page as it is drawn.
 ghost use mathlib.Core.Path.{_≡_};
-ghost use Rattle.film_check.specs.Answers.{answered};
+ghost use Rattle.film_check.specs.Promise.{checkedAs};
 ghost use Rattle.lister.specs.Listing.{listAnswer};
 use film_check::Checked;
 use film_check::check;
@@ -9,6 +9,7 @@ use film_drawing::Drawn;
 use film_herald::bands_per_page;
 use film_herald::row_bytes;
 use film_words::word;
+use refusal::Refusal;
 use text::band_line;
 use text::pages_line;
 use text::refusal_line;
@@ -24,9 +25,9 @@ fn print_start(line: &[u8], n: usize) {
     }
 }
 
-fn print_refusal(number: u8, place: usize) {
+fn print_refusal(r: Refusal) {
     let mut line = [0u8; 128];
-    let n = refusal_line(number, place, &mut line);
+    let n = refusal_line(r.number, r.place, &mut line);
     print_start(&line, n);
 }
 
@@ -53,7 +54,7 @@ fn print_rows(buffer: &[u8], rows: usize, row_bytes: usize) {
 // Draws a band into the buffer and prints it.
 fn print_band<'a>(sheet: &'a [u8], load: &'a [u8], page: usize, band: usize, buffer: &mut [u8]) {
     match draw(sheet, load, page, band, buffer) {
-        Drawn::Refused(n, p) => print_refusal(n, p),
+        Drawn::Refused(r) => print_refusal(r),
         Drawn::Done(rows, dots) => {
             let mut line = [0u8; 128];
             let n = band_line(page, band, rows, dots, &mut line);
@@ -88,16 +89,20 @@ fn print_pages<'a>(sheet: &'a [u8], load: &'a [u8], pages: usize) {
 // Prints the listing of a sheet of at most 65,536 bytes with an empty load, or the line of its refusal, and answers what the check answers; a longer
 // input is refused with 1 at 0.
 pub fn list(input: &[u8]) -> Checked
-    ensures { λ r. ⌜ answered r ≡ listAnswer (now (input .entry)) ⌝ }
+    ensures { λ r. ⌜ checkedAs r ≡ listAnswer (now (input .entry)) ⌝ }
 {
     if input.len() > LONGEST {
-        print_refusal(1, 0);
-        return Checked::Refused(1, 0);
+        let r = Refusal {
+            number: 1,
+            place: 0,
+        };
+        print_refusal(r);
+        return Checked::Refused(r);
     }
     let load = b"\x00\x00\x00\x00";
     let answer = check(input, load);
     match answer {
-        Checked::Refused(n, p) => print_refusal(n, p),
+        Checked::Refused(r) => print_refusal(r),
         Checked::Pages(pages) => print_pages(input, load, pages),
     }
     answer

@@ -1,2 +1,2 @@
--- That `film_draw` keeps the promise of which demand 3 speaks: Draws.
+-- That `film_check` and `film_draw` keep the promises of which demand 3 speaks: Draws.
 pub mod Draws

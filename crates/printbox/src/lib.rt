@@ -144,7 +144,7 @@ pub extern "C" fn gdi_write_row(width: usize, row: &[u8], output: &mut [u8], ans
 
 // The linefill of paper of that width; its height and number do not matter.
 fn linefill(width: usize) -> Filled
-    ensures { λ r. ⌜ write.filled r ≡ fillAnswer width ⌝ }
+    ensures { λ r. ⌜ write.filledAs r ≡ fillAnswer width ⌝ }
 {
     if width > WIDEST {
         return Filled::Refused(27, 0);

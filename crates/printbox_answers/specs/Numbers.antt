@@ -3,6 +3,7 @@
 use mathlib.Core.Path.{_≡_}
 use mathlib.Core.List.{List, [], _∷_}
 use Prim.Native.Nat.{ℕ}
+use Rattle.refusal.specs.Answers as answers
 use Rattle.film_check.specs.Check as sheet
 use Rattle.film_drawing.specs.Promise as draw
 use Rattle.gdi_jobs.specs.Jobs as jobs
@@ -25,13 +26,13 @@ pageEnd offset left = 2 ∷ offset ∷ left ∷ []
 
 -- the check of a sheet: pages
 abbrev pub ofCheck : sheet.CheckAnswer → List ℕ
-ofCheck (sheet.pages count) = done count 0
-ofCheck (sheet.refused number place) = refused number place
+ofCheck (answers.given count) = done count 0
+ofCheck (answers.refused number place) = refused number place
 
 -- a draw: rows and dots
-abbrev pub ofDraw : draw.Told → List ℕ
-ofDraw (draw.done rows dots) = done rows dots
-ofDraw (draw.refusal number place) = refused number place
+abbrev pub ofDraw : answers.Answer draw.Counts → List ℕ
+ofDraw (answers.given d) = done (d .rows) (d .dots)
+ofDraw (answers.refused number place) = refused number place
 
 -- the check of a job: pages
 abbrev pub ofJob : jobs.JobAnswer → List ℕ
@@ -57,10 +58,10 @@ ofFill (paper.refused number place) = refused number place
 -- ---- worked cases
 
 pub record NumberCases : Type 0 where
-  pub sheet-passed : ofCheck (sheet.pages 3) ≡ 0 ∷ 3 ∷ 0 ∷ []
-  pub sheet-refused : ofCheck (sheet.refused 7 14) ≡ 1 ∷ 7 ∷ 14 ∷ []
+  pub sheet-passed : ofCheck (answers.given 3) ≡ 0 ∷ 3 ∷ 0 ∷ []
+  pub sheet-refused : ofCheck (answers.refused 7 14) ≡ 1 ∷ 7 ∷ 14 ∷ []
   pub band-drawn : ofDraw (draw.done 2 3) ≡ 0 ∷ 2 ∷ 3 ∷ []
-  pub draw-refused : ofDraw (draw.refusal 6 13) ≡ 1 ∷ 6 ∷ 13 ∷ []
+  pub draw-refused : ofDraw (answers.refused 6 13) ≡ 1 ∷ 6 ∷ 13 ∷ []
   pub job-passed : ofJob (jobs.pages 3) ≡ 0 ∷ 3 ∷ 0 ∷ []
   pub job-refused : ofJob (jobs.refused 24 86) ≡ 1 ∷ 24 ∷ 86 ∷ []
   pub line-read : ofLine (lines.nextLine 114 5) ≡ 0 ∷ 114 ∷ 5 ∷ []

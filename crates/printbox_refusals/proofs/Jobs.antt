@@ -5,15 +5,15 @@ use mathlib.Core.List.{List, [], _∷_}
 use Prim.Native.Nat.{ℕ, zero, suc, _+_, _-_, _%_}
 use lib.Dec.{eqb, leb, ltb}
 use lib.ListN.{length, drop}
-use Rattle.row.specs.Spare.{spareClear}
+use Rattle.row_runs.specs.Spare.{spareClear}
 use Rattle.gdi_jobs.specs.Commands.{Command, run, dotsOf, taken, broken, blackBit, withSecond, command}
 use Rattle.gdi_jobs.specs.Groups.{Group, cut, pageHead, wrongPageHead, block, pageEnd, documentEnd, unknown, group, headBytes, pageEndBytes, documentEndBytes, admitted, fields}
 use Rattle.gdi_jobs.specs.Pages.{Next, toBlock, toEnd, toCommand, fault, inGap, ofCommand, next}
 use Rattle.gdi_jobs.specs.Jobs.{State, between, inPage, Step, onward, done, stop, stepBetween, stepInPage, step, longest, JobAnswer, thenWalk, walk, walkHead, jobAnswer}
-use Rattle.gdi_jobs.specs.Lines.{Line, line, withCommand, thenLine, lineFrom, rowLength, lineAt}
+use Rattle.gdi_jobs.specs.Lines.{Line, line, withCommand, thenLine, lineFrom, lineBytes, lineAt}
 use Rattle.gdi_jobs.specs.Lines as lines
 use Rattle.gdi_jobs.specs.Rows.{runs, longestRun, rowBytes}
-use Rattle.gdi_jobs.specs.Writers.{Writing, refuses, put, headWriting, pageEndWriting, documentEndWriting, PageHead, pageHeadBytes, pageHeadWriting, rowWriting, answerOf}
+use Rattle.gdi_jobs.specs.Writers.{Writing, refuses, inRoom, headWriting, pageEndWriting, documentEndWriting, PageHead, pageHeadBytes, pageHeadWriting, rowWriting, answerOf}
 use Rattle.gdi_jobs.proofs.Rows.{no-run-too-long}
 use Rattle.gdi_write.specs.Paper.{FillAnswer, fillAnswer}
 use Rattle.printbox_answers.specs.Numbers.{ofJob, ofLine, ofWriting, ofFill}
@@ -142,7 +142,7 @@ pub gdi-read-line : (job : List ℕ) (offset left width room : ℕ) → gives li
 unfolding lineAt gives among
 gdi-read-line job offset left width room =
     either LineIn (not (admitted width)) refl
-    (either LineIn (not (eqb room (rowLength width))) refl
+    (either LineIn (not (eqb room (lineBytes width))) refl
     (either LineIn (ltb longest (length job)) refl
     (either LineIn (ltb (length job) offset) refl (line-in width false 0 left 0 offset (drop offset job)))))
 
@@ -151,7 +151,7 @@ gdi-read-line job offset left width room =
 abbrev WriteIn : List ℕ → Writing → Type 0
 WriteIn ms w = gives ms (ofWriting (answerOf w)) ≡ true
 
-put-in : (ms bs : List ℕ) (room : ℕ) → among ms 27 ≡ true → WriteIn ms (put bs room)
+put-in : (ms bs : List ℕ) (room : ℕ) → among ms 27 ≡ true → WriteIn ms (inRoom bs room)
 unfolding gives
 put-in ms bs room h = either (WriteIn ms) (leb (length bs) room) refl h
 
@@ -180,13 +180,13 @@ gdi-write-row width row room = go (admitted width) refl
     W = WriteIn otherRefusals
 
     rest : Writing
-    rest = cond (ltb 16383 (longestRun (runs width row))) (refuses 28 0) (put (rowBytes width row) room)
+    rest = cond (ltb 16383 (longestRun (runs width row))) (refuses 28 0) (inRoom (rowBytes width row) room)
 
     go : (t : Bool) → admitted width ≡ t
-        → W (cond (not t) (refuses 27 0) (cond (not (eqb (length row) (rowLength width))) (refuses 27 0) (cond (not (spareClear row width)) (refuses 27 0) rest)))
+        → W (cond (not t) (refuses 27 0) (cond (not (eqb (length row) (lineBytes width))) (refuses 27 0) (cond (not (spareClear row width)) (refuses 27 0) rest)))
     go false e = refl
     go true e =
-        either W (not (eqb (length row) (rowLength width))) refl
+        either W (not (eqb (length row) (lineBytes width))) refl
         (either W (not (spareClear row width)) refl (rw (no-run-too-long width row e) (put-in otherRefusals (rowBytes width row) room refl)))
 
 pub gdi-linefill : (width : ℕ) → gives otherRefusals (ofFill (fillAnswer width)) ≡ true

@@ -10,13 +10,13 @@ use Rattle.film_imaging.proofs.Rectangle.{rectangle-empty-lines, rectangle-empt
 use Rattle.gdi_jobs.specs.Commands.{command}
 use Rattle.gdi_jobs.specs.Groups.{admitted, fields, fits, group}
 use Rattle.gdi_jobs.specs.Pages.{next}
-use Rattle.gdi_jobs.specs.Lines.{lineDot, rowLength, lineRow, lineFrom, lineAt}
+use Rattle.gdi_jobs.specs.Lines.{lineDot, lineBytes, lineRow, lineFrom, lineAt}
 use Rattle.gdi_jobs.specs.Rows.{commandBytes}
 use Rattle.gdi_jobs.proofs.Commands.{command-two}
 use Rattle.starred.specs.Starred.{Starred}
 
 pub starred : Starred
-unfolding rowsOf numbered rowBytes rowOf byteOf filmOf carryOut painted masked within command next lineAt lineFrom lineRow rowLength lineDot admitted fields fits group commandBytes
+unfolding rowsOf numbered rowBytes rowOf byteOf filmOf carryOut painted masked within command next lineAt lineFrom lineRow lineBytes lineDot admitted fields fits group commandBytes
 starred =
     record {
       r = refl;

@@ -3,29 +3,34 @@ use mathlib.Core.Path.{_≡_}
 use mathlib.Core.Bool.{true, false}
 use mathlib.Core.List.{List, [], _∷_}
 use Prim.Native.Nat.{ℕ, _≤_}
-use Rattle.film_commands.specs.Commands.{paint, rectangle, trapezoid, broken, commandIn}
+use Rattle.refusal.specs.Answers.{refused}
+use Rattle.film_commands.specs.Commands.{Mask, rectangle, trapezoid, commandIn}
+use Rattle.film_commands.specs.Band.{solid, stroke}
 use Rattle.film_imaging.specs.Masks.{masked}
 use Rattle.film_imaging.specs.Pictures.{rowsOf}
 use Rattle.gdi_jobs.specs.Commands.{run, taken, command}
 use Rattle.gdi_jobs.specs.Lines.{line, lineAt, lineRow}
 use Rattle.gdi_jobs.specs.Rows.{commandBytes}
 
--- `rowsOf 16 0 n cs` is the bytes of the lines 0 to n - 1 of a film of 16 dots on which the commands cs were carried out. `command left c rest` is the
--- command whose first byte is c, with `left` bytes of its block from there on and the bytes `rest` after it; `run true n` is n dots of black,
+-- the bytes of the lines 0 to n - 1 of a film of 16 dots on which the mask m was inked
+abbrev pub lines : ℕ → Mask → List (List ℕ)
+lines n m = rowsOf (record { fMin = 0; fSize = 16 }) 0 n (stroke 0 0 (solid true) m ∷ [])
+
+-- `command left c rest` is the command whose first byte is c, with `left` bytes of its block from there on and the bytes `rest` after it; `run true n` is n dots of black,
 -- `run false n` of white. `lineAt job offset left width n` is what the line reader reads at a place for a row of n bytes.
 pub record Starred : Type 0 where
   -- R: rectangle 1, 2, 1, 3 inks lines 1 and 2, columns 1 to 3, byte 70
-  pub r : rowsOf 16 0 4 (paint (rectangle 1 2 1 3) ∷ []) ≡ (0x00 ∷ 0x00 ∷ []) ∷ (0x70 ∷ 0x00 ∷ []) ∷ (0x70 ∷ 0x00 ∷ []) ∷ (0x00 ∷ 0x00 ∷ []) ∷ []
+  pub r : lines 4 (rectangle 1 2 1 3) ≡ (0x00 ∷ 0x00 ∷ []) ∷ (0x70 ∷ 0x00 ∷ []) ∷ (0x70 ∷ 0x00 ∷ []) ∷ (0x00 ∷ 0x00 ∷ []) ∷ []
   -- R0: size 0 inks nothing
   pub r0-lines : (sMin fMin fSize s f : ℕ) → masked (rectangle sMin 0 fMin fSize) s f ≡ false
   pub r0-dots : (sMin sSize fMin s f : ℕ) → masked (rectangle sMin sSize fMin 0) s f ≡ false
   -- T1: trapezoid 0, 3, 0, 2, 3, 2 gives rows C0, 30, 18
-  pub t1 : rowsOf 16 0 3 (paint (trapezoid 0 3 0 2 3 2) ∷ []) ≡ (0xC0 ∷ 0x00 ∷ []) ∷ (0x30 ∷ 0x00 ∷ []) ∷ (0x18 ∷ 0x00 ∷ []) ∷ []
+  pub t1 : lines 3 (trapezoid 0 3 0 2 3 2) ≡ (0xC0 ∷ 0x00 ∷ []) ∷ (0x30 ∷ 0x00 ∷ []) ∷ (0x18 ∷ 0x00 ∷ []) ∷ []
   -- T2: 0, 3, 3, 1, 0, 1 gives 10, 20, 80
-  pub t2 : rowsOf 16 0 3 (paint (trapezoid 0 3 3 1 0 1) ∷ []) ≡ (0x10 ∷ 0x00 ∷ []) ∷ (0x20 ∷ 0x00 ∷ []) ∷ (0x80 ∷ 0x00 ∷ []) ∷ []
+  pub t2 : lines 3 (trapezoid 0 3 3 1 0 1) ≡ (0x10 ∷ 0x00 ∷ []) ∷ (0x20 ∷ 0x00 ∷ []) ∷ (0x80 ∷ 0x00 ∷ []) ∷ []
   -- T3: sSize 1 is 8, at the code word, whatever the other words are
   pub t3 : (load args : List ℕ) (least sMin fMin fSize fMinLast fSizeLast : ℕ)
-      → commandIn load least (6 ∷ sMin ∷ 1 ∷ fMin ∷ fSize ∷ fMinLast ∷ fSizeLast ∷ args) ≡ broken 8 0
+      → commandIn load least (6 ∷ sMin ∷ 1 ∷ fMin ∷ fSize ∷ fMinLast ∷ fSizeLast ∷ args) ≡ refused 8 0
   -- G1: 5A is black, 26 dots
   pub g1 : (left : ℕ) (rest : List ℕ) → command left 0x5A rest ≡ taken (run true 26) 1
   -- G2: 9A 4A is white, 4762

@@ -13,7 +13,7 @@ use Rattle.strip.specs.declared.Run.{Run}
 use Rattle.strip.specs.declared.Run.the-variants.{First, Copied, Literal}
 use Rattle.strip.specs.Coding.{Expansion, whole, cut, after, runOf, leftOf, atEnd, expandFrom}
 use Rattle.strip.specs.Actions.{Action, add, refuse, ofExpansion}
-use Rattle.strip_band.specs.Puts.{filled, Puts}
+use Rattle.strip_band.specs.Puts.{expansionFrom, Puts}
 
 -- ---- runs
 
@@ -59,7 +59,7 @@ module _ (b : ℕ) (out : List ℕ) (at : ℕ) (long : length out ≡ 640) (le :
 
   -- a byte that gives the bytes `front` and leaves a run
   module _ (run next : Run) (front : List ℕ) (gives : (bytes : List ℕ) → expandFrom (b ∷ bytes) run ≡ after front (expandFrom bytes next)) where
-    joined : (bytes : List ℕ) → filled out at (b ∷ bytes) run ≡ after (take at out ++ front) (expandFrom bytes next)
+    joined : (bytes : List ℕ) → expansionFrom out at (b ∷ bytes) run ≡ after (take at out ++ front) (expandFrom bytes next)
     joined bytes = ap (after (take at out)) (gives bytes) ∙ after-after (take at out) front (expandFrom bytes next)
 
     put-over : (last : Run) → 640 < at + length front → Puts run b out at last out 641
@@ -108,7 +108,7 @@ pub no-band : (x : List ℕ) → (length x ≡ 640 → ⊥) → ofExpansion (who
 no-band x h = rw (ne-eqb (length x) 640 h)
 
 module _ (out : List ℕ) (at : ℕ) (run : Run) where
-  pub ends-first : length out ≡ 640 → at ≤ 640 → atEnd run ≡ whole [] → ofExpansion (filled out at [] run) ≡ cond (eqb at 640) (add out) (refuse 35)
+  pub ends-first : length out ≡ 640 → at ≤ 640 → atEnd run ≡ whole [] → ofExpansion (expansionFrom out at [] run) ≡ cond (eqb at 640) (add out) (refuse 35)
   unfolding expandFrom
   ends-first long le e =
       ap (λ (x : Expansion). ofExpansion (after (take at out) x)) e
@@ -119,7 +119,7 @@ module _ (out : List ℕ) (at : ℕ) (run : Run) where
       go true q = ap (λ (x : List ℕ). ofExpansion (whole x)) (take-all at out (omega (arith, eqb-true at 640 q))) ∙ is-band out long
       go false q = no-band (take at out) (λ h. eqb-false at 640 q (sym (length-take-le at out (omega arith)) ∙ h))
 
-  pub ends-cut : atEnd run ≡ cut → ofExpansion (filled out at [] run) ≡ refuse 35
+  pub ends-cut : atEnd run ≡ cut → ofExpansion (expansionFrom out at [] run) ≡ refuse 35
   unfolding expandFrom
   ends-cut e = ap (λ (x : Expansion). ofExpansion (after (take at out) x)) e
 
@@ -134,24 +134,24 @@ copy-ends out body i p q h e = is-band body q ∙ ap add (sym (take-all i body (
 
 -- ---- a coded body
 
-pub expand-begins : (out body : List ℕ) → filled out 0 (drop 0 body) First ≡ expandFrom body First
+pub expand-begins : (out body : List ℕ) → expansionFrom out 0 (drop 0 body) First ≡ expandFrom body First
 expand-begins out body = after-none (expandFrom body First)
 
 module _ (body out out′ : List ℕ) (i at at′ : ℕ) (run run′ : Run) (l : i < length body) (p : Puts run (getD body i 0) out at run′ out′ at′)
-    (e : filled out at (drop i body) run ≡ expandFrom body First) where
+    (e : expansionFrom out at (drop i body) run ≡ expandFrom body First) where
   -- the next byte, and those after it
-  parts : filled out at (drop i body) run ≡ filled out at (getD body i 0 ∷ drop (i + 1) body) run
-  parts = ap (λ (x : List ℕ). filled out at x run) (rw (add-one i) (drop-cons body i 0 l))
+  parts : expansionFrom out at (drop i body) run ≡ expansionFrom out at (getD body i 0 ∷ drop (i + 1) body) run
+  parts = ap (λ (x : List ℕ). expansionFrom out at x run) (rw (add-one i) (drop-cons body i 0 l))
 
-  pub expand-more : at′ ≤ 640 → filled out′ at′ (drop (i + 1) body) run′ ≡ expandFrom body First
+  pub expand-more : at′ ≤ 640 → expansionFrom out′ at′ (drop (i + 1) body) run′ ≡ expandFrom body First
   expand-more le = sym (p .same le (drop (i + 1) body)) ∙ sym parts ∙ e
 
   pub expand-over : 640 < at′ → ofExpansion (expandFrom body First) ≡ refuse 35
   expand-over lt = ap ofExpansion (sym e ∙ parts) ∙ p .over lt (drop (i + 1) body)
 
-pub expand-ends : (body out : List ℕ) (i at : ℕ) (run : Run) (x : Action) → length body ≤ i → filled out at (drop i body) run ≡ expandFrom body First
-    → ofExpansion (filled out at [] run) ≡ x → ofExpansion (expandFrom body First) ≡ x
-expand-ends body out i at run x l e q = ap ofExpansion (sym e ∙ ap (λ (y : List ℕ). filled out at y run) (drop-of-length-le body {i = i} l)) ∙ q
+pub expand-ends : (body out : List ℕ) (i at : ℕ) (run : Run) (x : Action) → length body ≤ i → expansionFrom out at (drop i body) run ≡ expandFrom body First
+    → ofExpansion (expansionFrom out at [] run) ≡ x → ofExpansion (expandFrom body First) ≡ x
+expand-ends body out i at run x l e q = ap ofExpansion (sym e ∙ ap (λ (y : List ℕ). expansionFrom out at y run) (drop-of-length-le body {i = i} l)) ∙ q
 
 -- ---- plain or coded
 

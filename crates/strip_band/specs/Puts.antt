@@ -8,13 +8,13 @@ use Rattle.strip.specs.Coding.{Expansion, after, expandFrom}
 use Rattle.strip.specs.Actions.{refuse, ofExpansion}
 
 -- what a body stands for whose first bytes gave `take at out` and of which these are left
-abbrev pub filled : (out : List ℕ) (at : ℕ) (bytes : List ℕ) → Run → Expansion
-filled out at bytes run = after (take at out) (expandFrom bytes run)
+abbrev pub expansionFrom : (out : List ℕ) (at : ℕ) (bytes : List ℕ) → Run → Expansion
+expansionFrom out at bytes run = after (take at out) (expandFrom bytes run)
 
 -- what a byte b leaves of a band, of how far it is filled and of the open run
 pub record Puts (run : Run) (b : ℕ) (out : List ℕ) (at : ℕ) (run′ : Run) (out′ : List ℕ) (at′ : ℕ) : Type 0 where
   pub long : length out′ ≡ 640
   -- the same body as before
-  pub same : at′ ≤ 640 → (bytes : List ℕ) → filled out at (b ∷ bytes) run ≡ filled out′ at′ bytes run′
+  pub same : at′ ≤ 640 → (bytes : List ℕ) → expansionFrom out at (b ∷ bytes) run ≡ expansionFrom out′ at′ bytes run′
   -- or it is too long, whatever comes
-  pub over : 640 < at′ → (bytes : List ℕ) → ofExpansion (filled out at (b ∷ bytes) run) ≡ refuse 35
+  pub over : 640 < at′ → (bytes : List ℕ) → ofExpansion (expansionFrom out at (b ∷ bytes) run) ≡ refuse 35

@@ -8,7 +8,7 @@ ghost use lib.ListN.{length, replicate};
 ghost use lib.Seq.{paste};
 ghost use Rattle.strip.specs.Coding.{runOf, leftOf, whole, expand};
 ghost use Rattle.strip.specs.Actions.{add, refuse, ofExpansion};
-ghost use Rattle.strip_band.specs.Puts.{filled, Puts};
+ghost use Rattle.strip_band.specs.Puts.{expansionFrom, Puts};
 use strip::Run;
 
 // The bytes count only where the band is whole.
@@ -56,7 +56,7 @@ fn fill(out: &mut [u8; 640], at: usize, n: usize, b: u8)
 }
 
 // One byte of a coded body; where it overfills the band nothing is written.
-fn put(run: Run, b: u8, out: &mut [u8; 640], at: usize) -> Filled
+fn expand_byte(run: Run, b: u8, out: &mut [u8; 640], at: usize) -> Filled
     requires { ⌜ (at ≤ 640) × (length (now out) ≡ 640) ⌝ }
     ensures { λ r. ⌜ Puts run b (now (out .entry)) at (r .run) (now (out .exit)) (r .at) ⌝ }
 {
@@ -95,7 +95,7 @@ fn put(run: Run, b: u8, out: &mut [u8; 640], at: usize) -> Filled
 // At the body's end a band is whole where no run is open and all 640 bytes are there.
 fn finish(run: Run, out: [u8; 640], at: usize) -> Band
     requires { ⌜ (at ≤ 640) × (length out ≡ 640) ⌝ }
-    ensures { λ r. ⌜ ofExpansion (filled out at [] run) ≡ cond (r .whole) (add (r .bytes)) (refuse 35) ⌝ }
+    ensures { λ r. ⌜ ofExpansion (expansionFrom out at [] run) ≡ cond (r .whole) (add (r .bytes)) (refuse 35) ⌝ }
 {
     let ended = match run {
         Run::First => at == 640,
@@ -117,7 +117,7 @@ fn expanded(body: &[u8]) -> Band
     let mut at: usize = 0;
     let mut i: usize = 0;
     while i < body.len() {
-        let f = put(run, body[i], &mut out, at);
+        let f = expand_byte(run, body[i], &mut out, at);
         if 640 < f.at {
             return Band {
                 whole: false,

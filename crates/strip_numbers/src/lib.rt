@@ -114,7 +114,7 @@ fn record_of(r: Receiver) -> StripRecord
     }
 }
 
-fn told(reply: u8, event: u8, bands: u8, margins: u8, density: u8) -> StripAnswer
+fn event_of(reply: u8, event: u8, bands: u8, margins: u8, density: u8) -> StripAnswer
     ensures { λ r. ⌜ r ≡ done reply event bands margins density ⌝ }
 {
     StripAnswer {
@@ -133,16 +133,16 @@ fn answer_of(a: Answer) -> StripAnswer
     ensures { λ x. ⌜ x ≡ answerOf a ⌝ }
 {
     match a {
-        Answer::Reply(x) => told(x, 0, 0, 0, 0),
-        Answer::Initialized => told(0, 1, 0, 0, 0),
-        Answer::Added(n) => told(0, 2, n, 0, 0),
-        Answer::Ended => told(0, 3, 0, 0, 0),
-        Answer::Inquired => told(0, 4, 0, 0, 0),
+        Answer::Reply(x) => event_of(x, 0, 0, 0, 0),
+        Answer::Initialized => event_of(0, 1, 0, 0, 0),
+        Answer::Added(n) => event_of(0, 2, n, 0, 0),
+        Answer::Ended => event_of(0, 3, 0, 0, 0),
+        Answer::Inquired => event_of(0, 4, 0, 0, 0),
         Answer::Printed {
             count,
             margins,
             density,
-        } => told(0, 5, count, margins, density),
+        } => event_of(0, 5, count, margins, density),
         Answer::Refused(n, at) => StripAnswer {
             kind: 1,
             reply: 0,

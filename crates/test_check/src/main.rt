@@ -85,11 +85,11 @@ fn print_answer(answer: Checked) {
             io::write_all(1, b"pages ");
             io::print_decimal(1, n as u64);
         }
-        Checked::Refused(n, p) => {
+        Checked::Refused(r) => {
             io::write_all(1, b"refused ");
-            io::print_decimal(1, n as u64);
+            io::print_decimal(1, r.number as u64);
             io::write_all(1, b" at ");
-            io::print_decimal(1, p as u64);
+            io::print_decimal(1, r.place as u64);
         }
     }
     io::write_all(1, b"\n");

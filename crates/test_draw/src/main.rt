@@ -15,9 +15,9 @@ fn print_answer(answer: Drawn) {
             print_field(b": drawn ", rows);
             print_field(b" ", dots);
         }
-        Drawn::Refused(number, place) => {
-            print_field(b": refused ", number as usize);
-            print_field(b" at ", place);
+        Drawn::Refused(r) => {
+            print_field(b": refused ", r.number as usize);
+            print_field(b" at ", r.place);
         }
     }
     io::write_all(1, b"\n");

@@ -47,7 +47,7 @@ fn run(input: &[u8], buffer: &mut [u8]) {
         buffer,
     ) {
         Drawn::Done(rows, dots) => print_pair(b"drawn ", rows, dots),
-        Drawn::Refused(n, p) => print_pair(b"refused ", n as usize, p),
+        Drawn::Refused(r) => print_pair(b"refused ", r.number as usize, r.place),
     }
 }
 

@@ -1,9 +1,13 @@
-// Runs `film_masks::ink_command` on a band of four rows and prints a line for each case: its name, and the buffer as it is then, in hexadecimal. What the program must print is in the file stdout beside src/.
-use film_commands::Command;
-use film_masks::Band;
-use film_masks::colour_after;
-use film_masks::ink_command;
-use film_paint::Colour;
+// Runs `film_masks::ink_mask` on a band of four rows and prints a line for each case: its name, and the buffer as it is then, in hexadecimal. What the
+// program must print is in the file stdout beside src/.
+use film_commands::Colour;
+use film_commands::Mask;
+use film_commands::Source;
+use film_cursor::Cursor;
+use film_cursor::Step;
+use film_cursor::advance;
+use film_masks::ink_mask;
+use film_paint::Frame;
 
 const INK: Colour = Colour::Solid(true);
 
@@ -28,8 +32,8 @@ const NO_TILE: Colour = Colour::Tile {
     to: 15,
 };
 
-fn rectangle(s_min: u16, s_size: u16, f_min: u16, f_size: u16) -> Command {
-    Command::Rectangle {
+fn rectangle(s_min: u16, s_size: u16, f_min: u16, f_size: u16) -> Mask {
+    Mask::Rectangle {
         s_min,
         s_size,
         f_min,
@@ -37,8 +41,8 @@ fn rectangle(s_min: u16, s_size: u16, f_min: u16, f_size: u16) -> Command {
     }
 }
 
-fn trapezoid(s_size: u16, f_min: u16, f_size: u16, f_min_last: u16, f_size_last: u16) -> Command {
-    Command::Trapezoid {
+fn trapezoid(s_size: u16, f_min: u16, f_size: u16, f_min_last: u16, f_size_last: u16) -> Mask {
+    Mask::Trapezoid {
         s_min: 0,
         s_size,
         f_min,
@@ -60,8 +64,8 @@ fn print_rows(buf: &[u8]) {
     io::write_all(1, b"\n");
 }
 
-// One command in a band of four rows that begins at line `first`.
-fn case(name: &[u8], buf: &mut [u8], first: u16, width: u16, colour: Colour, c: Command) {
+// One mask in a frame of four rows that begins at line `top` and dot `left`.
+fn case(name: &[u8], buf: &mut [u8], top: u16, left: u16, width: u16, colour: Colour, m: Mask) {
     // A sheet's part: at place 0 a run group of three lines, in which two runs of line 0 overlap, the run of line 1 has no dots and that of line 2 goes
     // past the film; at place 9 an array of two lines of 17 dots.
     let sheet =
@@ -70,25 +74,26 @@ fn case(name: &[u8], buf: &mut [u8], first: u16, width: u16, colour: Colour, c: 
     // 9 an array of one line of 4 dots, its padding bits set.
     let load =
         b"\x00\x0c\x00\x00\x00\x01\x00\x01\x00\x02\x00\x01\x00\x02\x80\x00\x00\x01\x00\x04\x80\x02\x00\x01\x00\x04\xff\xff";
-    let band = Band {
-        first,
+    let frame = Frame {
+        top,
         rows: 4,
+        left,
         width,
     };
-    ink_command(buf, band, sheet, load, colour, c);
+    ink_mask(buf, frame, sheet, load, colour, m);
     io::write_all(1, name);
     print_rows(buf);
 }
 
 // On rows of 16 dots that are all 0, and on rows that are all 1.
-fn white(name: &[u8], first: u16, colour: Colour, c: Command) {
+fn white(name: &[u8], top: u16, colour: Colour, m: Mask) {
     let mut buf = [0u8; 8];
-    case(name, &mut buf, first, 16, colour, c);
+    case(name, &mut buf, top, 0, 16, colour, m);
 }
 
-fn black(name: &[u8], first: u16, colour: Colour, c: Command) {
+fn black(name: &[u8], top: u16, colour: Colour, m: Mask) {
     let mut buf = [255u8; 8];
-    case(name, &mut buf, first, 16, colour, c);
+    case(name, &mut buf, top, 0, 16, colour, m);
 }
 
 fn rectangles() {
@@ -110,37 +115,49 @@ fn trapezoids() {
     white(b"last-lines", 65531, INK, trapezoid(65535, 16, 0, 0, 16));
 }
 
-fn runs() -> Command {
-    Command::Runs {
+fn runs() -> Mask {
+    Mask::Runs {
         s_min: 1,
-        from: 0,
-        to: 9,
+        source: Source {
+            load: false,
+            from: 0,
+            to: 9,
+        },
     }
 }
 
-fn load_runs() -> Command {
-    Command::LoadRuns {
+fn load_runs() -> Mask {
+    Mask::Runs {
         s_min: 2,
-        from: 8,
-        to: 11,
+        source: Source {
+            load: true,
+            from: 8,
+            to: 11,
+        },
     }
 }
 
-fn samples(s_min: u16, f_min: u16, to: usize) -> Command {
-    Command::Samples {
+fn samples(s_min: u16, f_min: u16, to: usize) -> Mask {
+    Mask::Samples {
         s_min,
         f_min,
-        from: 9,
-        to,
+        source: Source {
+            load: false,
+            from: 9,
+            to,
+        },
     }
 }
 
-fn load_samples() -> Command {
-    Command::LoadSamples {
+fn load_samples() -> Mask {
+    Mask::Samples {
         s_min: 1,
         f_min: 14,
-        from: 11,
-        to: 14,
+        source: Source {
+            load: true,
+            from: 11,
+            to: 14,
+        },
     }
 }
 
@@ -163,19 +180,74 @@ fn tiles() {
     black(b"opaque-no-tile", 0, NO_TILE, rectangle(0, 2, 0, 8));
 }
 
+// The mask after a colour command, both read by a cursor that begins with another colour.
+fn second(name: &[u8], buf: &mut [u8], colour: Colour, commands: &[u8]) {
+    let first = Cursor {
+        at: 0,
+        least: 0,
+        colour,
+    };
+    let load = b"\x00\x00\x00\x00";
+    if let Step::Other(next) = advance(commands, load, 6, first) {
+        if let Step::Paint(m, _) = advance(commands, load, 6, next) {
+            let painted = next.colour;
+            case(name, buf, 0, 0, 16, painted, m);
+        }
+    }
+}
+
 fn colours() {
-    white(b"colour-command", 0, INK, Command::Clear);
-    black(
+    let mut white = [0u8; 8];
+    let mut black = [255u8; 8];
+    second(
         b"after-clear",
+        &mut black,
+        INK,
+        b"\x00\x03\x00\x05\x00\x01\x00\x02\x00\x01\x00\x03",
+    );
+    second(
+        b"after-ink",
+        &mut white,
+        OPAQUE,
+        b"\x00\x02\x00\x05\x00\x01\x00\x02\x00\x01\x00\x03",
+    );
+}
+
+// Rows of nine dots from dot 3 of the film on.
+fn windows() {
+    let mut a = [0u8; 8];
+    case(
+        b"window-rectangle",
+        &mut a,
         0,
-        colour_after(INK, Command::Clear),
+        3,
+        9,
+        INK,
         rectangle(1, 2, 1, 3),
     );
-    white(
-        b"after-ink",
+    let mut b = [0u8; 8];
+    case(b"window-runs", &mut b, 0, 3, 9, INK, runs());
+    let mut c = [0u8; 8];
+    case(b"window-samples", &mut c, 0, 3, 9, INK, samples(2, 1, 15));
+    let mut d = [255u8; 8];
+    case(
+        b"window-opaque",
+        &mut d,
         0,
-        colour_after(OPAQUE, Command::Ink),
-        rectangle(1, 2, 1, 3),
+        3,
+        9,
+        OPAQUE,
+        rectangle(0, 4, 0, 16),
+    );
+    let mut e = [0u8; 8];
+    case(
+        b"window-trapezoid",
+        &mut e,
+        0,
+        3,
+        9,
+        INK,
+        trapezoid(3, 0, 2, 3, 2),
     );
 }
 
@@ -186,23 +258,41 @@ fn buffers() {
         b"spare-bits",
         &mut spare,
         0,
+        0,
         12,
         INK,
         rectangle(0, 4, 0, 16),
     );
     let mut wide = [0u8; 16];
-    case(b"two-words", &mut wide, 0, 17, INK, rectangle(1, 1, 15, 9));
+    case(
+        b"two-words",
+        &mut wide,
+        0,
+        0,
+        17,
+        INK,
+        rectangle(1, 1, 15, 9),
+    );
     let mut long = [85u8; 10];
     case(
         b"bytes-beyond",
         &mut long,
+        0,
         0,
         16,
         INK,
         rectangle(0, 5, 0, 16),
     );
     let mut short = [85u8; 6];
-    case(b"too-short", &mut short, 0, 16, INK, rectangle(0, 5, 0, 16));
+    case(
+        b"too-short",
+        &mut short,
+        0,
+        0,
+        16,
+        INK,
+        rectangle(0, 5, 0, 16),
+    );
 }
 
 fn main() {
@@ -211,5 +301,6 @@ fn main() {
     groups_and_arrays();
     tiles();
     colours();
+    windows();
     buffers();
 }

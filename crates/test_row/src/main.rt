@@ -76,14 +76,14 @@ fn run_end(row: &[u8], from: usize, width: usize) {
     print_row(row);
     print_argument(from);
     print_argument(width);
-    print_answer(row::run_end(row, from, width));
+    print_answer(row_runs::run_end(row, from, width));
 }
 
 fn spare_clear(row: &[u8], width: usize) {
     io::write_all(1, b"\nspare_clear ");
     print_row(row);
     print_argument(width);
-    print_answer(bit(row::spare_clear(row, width)));
+    print_answer(bit(row_runs::spare_clear(row, width)));
 }
 
 // Each function on a row without bytes.

@@ -7,7 +7,7 @@ use Rattle.film_words.specs.Parts.{partOf}
 use Rattle.film_words.specs.Load.{loadWords}
 use Rattle.film_words.proofs.Words.{length-words}
 use Rattle.film_commands.specs.Commands.{command, commandIn}
-use Rattle.film_commands.specs.Answers.{placed, commandOf}
+use Rattle.film_commands.specs.Code.{placed, commandOf}
 use Rattle.film_words.proofs.Parts.{part-past, part-empty}
 use Rattle.film_commands.proofs.Commands.{no-command, command-at, command-unknown}
 use Rattle.film_commands.proofs.Answers.{refused-at}
@@ -22,7 +22,8 @@ entry c = c .before .before .before .before .before .before
 by : (c : tie.After-word) (k : ℕ) → c .word .result ≡ k
     → placed (entry c .args .p) (command (loadWords (entry c .args .load .now)) (entry c .args .least) k (words (c .before .part .result .now)))
     ≡ placed (entry c .args .p)
-    (commandIn (loadWords (entry c .args .load .now)) (entry c .args .least) (words (partOf (entry c .args .sheet .now) (entry c .args .p) (entry c .args .end))))
+    (commandIn (loadWords (entry c .args .load .now)) (entry c .args .least)
+    (words (partOf (entry c .args .sheet .now) (entry c .args .p) (entry c .args .end))))
 by c k e =
     let a = entry c .args in
     ap (placed (a .p))
@@ -53,11 +54,11 @@ word-requires c κs = tt
 read-priority-requires : tie.Need-read-priority-requires
 read-priority-requires c κs = omega arith
 
-add-t13 : tie.Need-add-t13
-add-t13 c = omega arith
-
 add-t15 : tie.Need-add-t15
 add-t15 c = omega arith
+
+add-t17 : tie.Need-add-t17
+add-t17 c = omega arith
 
 read-tile-requires : tie.Need-read-tile-requires
 read-tile-requires c κs = omega arith
@@ -134,8 +135,8 @@ read-command-spec =
     part-requires
     word-requires
     read-priority-requires
-    add-t13
     add-t15
+    add-t17
     read-tile-requires
     read-rectangle-requires
     read-trapezoid-requires

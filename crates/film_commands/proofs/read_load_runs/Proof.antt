@@ -6,7 +6,7 @@ use Rattle.film_words.specs.Words.{words}
 use Rattle.film_words.proofs.Words.{length-words}
 use Rattle.film_words.proofs.Answers.{words-some, past-none}
 use Rattle.film_commands.specs.Commands.{loadRunsFrom}
-use Rattle.film_commands.specs.Answers.{commandOf, partFor}
+use Rattle.film_commands.specs.Code.{commandOf, partFor}
 use Rattle.film_commands.proofs.Commands.{too-few, group-room, load-runs-past, load-runs-there}
 use Rattle.film_commands.proofs.Answers.{refused-at, whole-at}
 use Rattle.film_commands.proofs.read_load_runs.Statement.{statement}

@@ -4,7 +4,7 @@ use native.Mathlib.Omega.{arith}
 use Rattle.film_words.specs.Words.{words}
 use Rattle.film_words.proofs.Words.{length-words}
 use Rattle.film_commands.specs.Commands.{priorityFrom}
-use Rattle.film_commands.specs.Answers.{commandOf, partFor}
+use Rattle.film_commands.specs.Code.{commandOf, partFor}
 use Rattle.film_commands.proofs.Commands.{too-few, priority-high, priority-falls, priority-read}
 use Rattle.film_commands.proofs.Answers.{refused-at, whole-at}
 use Rattle.film_commands.proofs.read_priority.Statement.{statement}

@@ -4,7 +4,7 @@ use native.Mathlib.Omega.{arith}
 use Rattle.film_words.specs.Words.{words}
 use Rattle.film_words.proofs.Words.{length-words}
 use Rattle.film_words.proofs.Answers.{words-some, past-none}
-use Rattle.film_commands.specs.Answers.{commandOf, partFor}
+use Rattle.film_commands.specs.Code.{commandOf, partFor}
 use Rattle.film_commands.proofs.Commands.{samples-past, samples-there, samples-end}
 use Rattle.film_commands.proofs.Answers.{refused-at, whole-at}
 use Rattle.film_commands.proofs.read_samples.Statement.{statement}
@@ -55,8 +55,8 @@ returns-2 c = λ l.
     let a = b .args in
     let n = c .before .before .before .r .given in
     whole-at (a .p) _ _ _ _ _
-    (samples-there (a .sheet .now) (a .args .now) (a .p) (a .end) (b .pre .0) (b .pre .1) (b .pre .2) (n .0 .0) (c .before .word .ensures) (c .word2 .ensures)
-    (words-some _ _ (sym (n .1) ∙ x .array-extent .ensures)))
+    (samples-there (a .sheet .now) (a .args .now) (a .p) (a .end) (b .pre .0) (b .pre .1) (b .pre .2) (n .0 .0)
+    (c .before .word .ensures) (c .word2 .ensures) (words-some _ _ (sym (n .1) ∙ x .array-extent .ensures)))
     (omega arith)
 
 pub read-samples-spec : {M : Type 1} → statement M

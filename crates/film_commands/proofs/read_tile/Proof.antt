@@ -7,7 +7,7 @@ use Rattle.film_words.specs.Words.{words}
 use Rattle.film_words.proofs.Words.{length-words}
 use Rattle.film_words.proofs.Answers.{words-some, past-none}
 use Rattle.film_commands.specs.Commands.{tileFrom}
-use Rattle.film_commands.specs.Answers.{commandOf, partFor}
+use Rattle.film_commands.specs.Code.{commandOf, partFor}
 use Rattle.film_commands.proofs.Commands.{too-few, array-room, tile-mode, tile-past, tile-no-lines, tile-no-dots, tile-there}
 use Rattle.film_commands.proofs.Answers.{refused-at, whole-at}
 use Rattle.film_commands.proofs.read_tile.Statement.{statement}
@@ -55,8 +55,8 @@ returns-3 c = λ s.
     let e = x .before .before in
     let a = e .before .before .before .before .before .args in
     refused-at (a .p) 9 _
-    (tile-past (a .load .now) (words (a .args .now)) _ _ (x .before .long .ensures) (omega (arith, length-words (a .args .now))) (e .before .word .ensures)
-    (e .if2 .left) (past-none _ (sym (c .enum-told .given .1) ∙ x .array-extent .ensures)))
+    (tile-past (a .load .now) (words (a .args .now)) _ _ (x .before .long .ensures) (omega (arith, length-words (a .args .now)))
+    (e .before .word .ensures) (e .if2 .left) (past-none _ (sym (c .enum-told .given .1) ∙ x .array-extent .ensures)))
 
 add-word : tie.Need-add-word
 add-word c = omega arith
@@ -71,8 +71,8 @@ returns-4 c = λ s.
     let a = e .before .before .before .before .before .args in
     let n = c .before .before .before .r .given in
     refused-at (a .p) 9 _
-    (tile-no-lines (a .load .now) (words (a .args .now)) _ _ (x .before .long .ensures) (omega (arith, length-words (a .args .now))) (e .before .word .ensures)
-    (e .if2 .left) (n .0 .0) (words-some _ _ (sym (n .1) ∙ x .array-extent .ensures)) (c .before .word2 .ensures) (c .if3 .taken))
+    (tile-no-lines (a .load .now) (words (a .args .now)) _ _ (x .before .long .ensures) (omega (arith, length-words (a .args .now)))
+    (e .before .word .ensures) (e .if2 .left) (n .0 .0) (words-some _ _ (sym (n .1) ∙ x .array-extent .ensures)) (c .before .word2 .ensures) (c .if3 .taken))
 
 add-word-2 : tie.Need-add-word-2
 add-word-2 c = omega arith
@@ -88,12 +88,18 @@ returns-5 c = λ s.
     let a = e .before .before .before .before .before .args in
     let n = d .before .before .before .r .given in
     refused-at (a .p) 9 _
-    (tile-no-dots (a .load .now) (words (a .args .now)) _ _ (x .before .long .ensures) (omega (arith, length-words (a .args .now))) (e .before .word .ensures)
-    (e .if2 .left) (n .0 .0) (words-some _ _ (sym (n .1) ∙ x .array-extent .ensures)) (d .before .word2 .ensures) (d .if3 .left)
+    (tile-no-dots (a .load .now) (words (a .args .now)) _ _ (x .before .long .ensures) (omega (arith, length-words (a .args .now)))
+    (e .before .word .ensures) (e .if2 .left) (n .0 .0) (words-some _ _ (sym (n .1) ∙ x .array-extent .ensures)) (d .before .word2 .ensures) (d .if3 .left)
     (c .before .word3 .ensures) (c .if4 .taken))
 
+-- where the array was measured
+abbrev measured : tie.Else4 → tie.After-array-extent
+measured c = c .before .before .before .before .before .before .before
+
 -- the array takes no more words than the load has
-few : (c : tie.Else4) → c .before .before .before .before .before .r .given .0 .0 ≤ length (c .before .before .before .before .before .before .before .before .before .before .before .before .before .before .args .load .now) / 2
+few : (c : tie.Else4)
+    → c .before .before .before .before .before .r .given .0 .0
+    ≤ length (measured c .before .before .before .before .before .before .before .args .load .now) / 2
 few c =
     let d = c .before .before in
     let x = d .before .before .before .before .before in
@@ -108,8 +114,8 @@ add-t8 c = omega (arith, few c)
 add-t9 : tie.Need-add-t9
 add-t9 c = omega (arith, few c)
 
-add-t14 : tie.Need-add-t14
-add-t14 c = omega arith
+add-t19 : tie.Need-add-t19
+add-t19 c = omega arith
 
 returns-6 : tie.Need-returns-6
 unfolding commandOf partFor
@@ -120,8 +126,8 @@ returns-6 c = λ s.
     let a = e .before .before .before .before .before .args in
     let n = d .before .before .before .r .given in
     whole-at (a .p) 3 _ _ _ _
-    (tile-there (a .load .now) (words (a .args .now)) _ _ (x .before .long .ensures) (omega (arith, length-words (a .args .now))) (e .before .word .ensures)
-    (e .if2 .left) (n .0 .0) (words-some _ _ (sym (n .1) ∙ x .array-extent .ensures)) (d .before .word2 .ensures) (d .if3 .left)
+    (tile-there (a .load .now) (words (a .args .now)) _ _ (x .before .long .ensures) (omega (arith, length-words (a .args .now)))
+    (e .before .word .ensures) (e .if2 .left) (n .0 .0) (words-some _ _ (sym (n .1) ∙ x .array-extent .ensures)) (d .before .word2 .ensures) (d .if3 .left)
     (c .before .word3 .ensures) (c .if4 .left))
     refl
 
@@ -148,5 +154,5 @@ read-tile-spec =
     returns-5
     add-t8
     add-t9
-    add-t14
+    add-t19
     returns-6)

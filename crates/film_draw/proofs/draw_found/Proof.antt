@@ -1,38 +1,26 @@
--- `film_draw::draw_found` meets its contract: the commands are read, carried out, and the rows' ones counted. Assumes nothing.
+-- `film_draw::draw_found` meets its contract: the commands are tested, carried out, and the rows' ones counted. Assumes nothing.
 use mathlib.Core.Path.{sym, ap, _∙_}
-use Prim.Native.Nat.{ℕ, _*_}
 use native.Mathlib.Omega.{arith}
-use lib.ListN.{take}
-use Rattle.row.specs.Counts.{onesOf}
-use Rattle.film_herald.specs.Answers.{told}
-use Rattle.film_check.specs.Check.{reading}
-use Rattle.film_draw.proofs.Drawing.{within-rows, all-read, band-refused, band-drawn}
+use Rattle.refusal.specs.Code.{testedAs}
+use Rattle.film_draw.proofs.Inking.{bandStrokes}
+use Rattle.film_draw.proofs.Drawing.{within-rows, handed-on, gone-on, rows-drawn}
 use Rattle.film_draw.proofs.draw_found.Statement.{statement}
 use Rattle.film_draw.proofs.draw_found.Tie as tie
 
 test-band-requires : tie.Need-test-band-requires
 test-band-requires c κs = tt
 
-enum-known-n : tie.Need-enum-known-n
-enum-known-n c = c .match .keys1
+enum-known-x : tie.Need-enum-known-x
+enum-known-x c = c .match .keys1
 
 returns : tie.Need-returns
-returns c =
-    let a = c .before .before .before .before .before .before .before .args in
-    band-refused (a .band .width) (a .band .first) (a .band .rows) (a .from) (reading (a .sheet .now) (a .load .now) (a .from) (a .end)) _ _ _
-    (sym (ap told (c .before .n .given .1)) ∙ c .before .before .before .test-band .ensures)
+returns c = handed-on _ _ _ (sym (ap testedAs (c .before .x .given .1)) ∙ c .before .before .before .test-band .ensures)
 
 enum-told : tie.Need-enum-told
 enum-told c = c .match .keys2
 
 ink-band-requires : tie.Need-ink-band-requires
-ink-band-requires c κs =
-    let s = c .before .before .before .before .before .before .before in
-    let a = s .args in (
-      s .pre .0,
-      all-read (a .from) (reading (a .sheet .now) (a .load .now) (a .from) (a .end))
-          (sym (ap told (c .before .enum-told .given .1)) ∙ c .before .before .before .test-band .ensures),
-    )
+ink-band-requires c κs = c .before .before .before .before .before .before .before .pre .0
 
 cast-rows : tie.Need-cast-rows
 cast-rows c = omega arith
@@ -42,9 +30,9 @@ row-bytes-requires c κs = tt
 
 count-dots-requires : tie.Need-count-dots-requires
 count-dots-requires c κs =
-    let s = c .before .before .before .before .before .before .before .before .before .before .before .before .before in
-    let i = c .before .before .before .before .before .ink-band in
-    within-rows (s .args .band .rows) (s .args .band .width) _ (s .args .buffer .now) (i .last .0) (c .row-bytes .ensures) (i .kept .0) (s .pre .0 .3) (s .pre .1)
+    let i = c .before .before .before .before .before in
+    let s = i .before .before .before .before .before .before .before .before in
+    within-rows (s .args .frame) _ (s .args .buffer .now) (i .ink-band .last .0) (c .row-bytes .ensures) (i .ink-band .kept .0) (s .pre .0) (s .pre .1)
 
 same-length : tie.Need-same-length
 same-length c = c .before .before .before .before .before .before .ink-band .kept .0
@@ -53,18 +41,17 @@ returns-2 : tie.Need-returns-2
 returns-2 c =
     let i = c .before .before .before .before .before .before in
     let v = i .before .before in
-    let s = v .before .before .before .before .before .before in
-    let a = s .args in
-    band-drawn (a .band .width) (a .band .first) (a .band .rows) (a .from) (reading (a .sheet .now) (a .load .now) (a .from) (a .end)) _ _ _
-    (sym (ap told (v .enum-told .given .1)) ∙ v .before .before .test-band .ensures)
-    (i .ink-band .ensures) (c .count-dots .ensures ∙ ap (λ (w : ℕ). onesOf (take (a .band .rows * w) (i .ink-band .last .0))) (c .before .row-bytes .ensures))
+    let a = v .before .before .before .before .before .before .args in
+    let ks = bandStrokes (a .sheet .now) (a .load .now) (a .from) (a .end) in
+    gone-on _ tt (sym (ap testedAs (v .enum-told .given .1)) ∙ v .before .before .test-band .ensures)
+    (rows-drawn (a .frame) ks _ _ _ _ (i .ink-band .ensures) (c .before .row-bytes .ensures) (c .count-dots .ensures))
 
 pub draw-found-spec : {M : Type 1} → statement M
 draw-found-spec =
     tie.close
     (tie.spec
     test-band-requires
-    enum-known-n
+    enum-known-x
     returns
     enum-told
     ink-band-requires

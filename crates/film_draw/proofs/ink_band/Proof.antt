@@ -1,124 +1,131 @@
--- `film_draw::ink_band` meets its contract. The loop's invariant: the rows show what the commands before place p ink. A refusal is never met, by the
--- contract's requires. The measure is the number of words left. Assumes nothing.
+-- `film_draw::ink_band` meets its contract. The loop's invariant: the strokes ahead, carried out on the buffer as it is, give what all of the band's
+-- give on the cleared one. The measure is the number of words left. Assumes nothing.
 use mathlib.Core.Path.{_≡_, ap, _∙_}
 use mathlib.Core.List.{_++_}
-use Prim.Native.Nat.{ℕ, _-_, _*_, _≤_, _<_}
+use Prim.Native.Nat.{ℕ, _-_, _*_}
 use native.Mathlib.Omega.{arith}
-use lib.ListN.{length, drop}
+use lib.ListN.{drop}
+use Rattle.film_cursor.specs.declared.Step.the-variants.{Paint, Other}
+use Rattle.film_cursor.proofs.Cursors.{met}
 use Rattle.film_herald.specs.Herald.{rowLength}
 use Rattle.film_masks.proofs.Bands.{rows-bytes}
-use Rattle.film_draw.proofs.Inking.{blank, Inked, inked-first, inked-length, inked-done, inked-whole, inked-next}
+use Rattle.film_draw.specs.Functions.{inkedWith}
+use Rattle.film_draw.proofs.Inking.{inkOut, ink-cleared, inked-length, bandStrokes, Inked, inked-first, inked-paint, inked-other, inked-end, inked-refused}
 use Rattle.film_draw.proofs.ink_band.Statement.{statement}
 use Rattle.film_draw.proofs.ink_band.Tie as tie
 
 abbrev Inv-loop : tie.InvT-loop
-Inv-loop buf₀ band sheet load from end colour₀ least₀ p₀ buf colour least p =
-    Inked (band .width) (band .first) (band .rows) sheet load from end buf₀ buf colour least p
+Inv-loop buf₀ frame sheet load from end n c₀ buf c = Inked frame sheet load from end buf₀ buf c
 
 abbrev μ-loop : tie.MeasureT-loop
-μ-loop buf₀ band sheet load from end colour₀ least₀ p₀ buf colour least p = end - p
+μ-loop buf₀ frame sheet load from end n c₀ buf c = end - c .at
 
-cast-clear : tie.Need-cast-clear Inv-loop μ-loop
-cast-clear c = omega arith
+cast-n : tie.Need-cast-n Inv-loop μ-loop
+cast-n c = omega arith
 
 row-bytes-requires : tie.Need-row-bytes-requires Inv-loop μ-loop
 row-bytes-requires c κs = tt
 
 -- the bytes of the rows
 size-is : (c : tie.After-row-bytes Inv-loop μ-loop)
-    → (let b = c .before .before .before .before .before .before .args .band in b .rows * c .row-bytes .result ≡ b .rows * rowLength (b .width))
-size-is c = ap (λ (w : ℕ). c .before .before .before .before .before .before .args .band .rows * w) (c .row-bytes .ensures)
+    → let f = c .before .before .before .before .before .args .frame in f .rows * c .row-bytes .result ≡ f .rows * rowLength (f .width)
+size-is c = ap (λ (w : ℕ). c .before .before .before .before .before .args .frame .rows * w) (c .row-bytes .ensures)
 
-mul-clear : tie.Need-mul-clear Inv-loop μ-loop
-mul-clear c =
-    let b = c .before .before .before .before .before .before .args .band in
-    omega (arith, size-is c, rows-bytes (b .rows) (b .width) (omega arith) (omega arith))
+mul-n : tie.Need-mul-n Inv-loop μ-loop
+mul-n c =
+    let f = c .before .before .before .before .before .args .frame in
+    omega (arith, size-is c, rows-bytes (f .rows) (f .width) (omega arith) (omega arith))
+
+sub-clear : tie.Need-sub-clear Inv-loop μ-loop
+sub-clear c = omega arith
+
+part-clear-start : tie.Need-part-clear-start Inv-loop μ-loop
+part-clear-start c = omega arith
+
+part-clear-end : tie.Need-part-clear-end Inv-loop μ-loop
+part-clear-end c = omega (arith, size-is c, c .before .before .before .before .before .pre .1)
 
 clear-requires : tie.Need-clear-requires Inv-loop μ-loop
-clear-requires c κs = omega (arith, size-is c, c .before .before .before .before .before .before .pre .0 .3)
+clear-requires c κs = tt
 
--- the cleared buffer
-cleared : (c : tie.After-slice-known2 Inv-loop μ-loop)
-    → (let a = c .before .before .before .before .before .before .before .before .before .args in
-    let n = a .band .rows * rowLength (a .band .width) in
-    c .before .before .clear .last .0 ≡ blank n ++ drop n (a .buf .now))
-cleared c =
-    let a = c .before .before .before .before .before .before .before .before .before .args in
-    c .before .before .clear .ensures ∙ ap (λ (n : ℕ). blank n ++ drop n (a .buf .now)) (size-is (c .before .before .before))
-
--- the cleared buffer has room for the rows
-fits : (c : tie.After-slice-known2 Inv-loop μ-loop)
-    → (let a = c .before .before .before .before .before .before .before .before .before .args in
-    a .band .rows * rowLength (a .band .width) ≤ length (c .before .before .clear .last .0))
-fits c = omega (arith, c .before .before .clear .kept .0, c .before .before .before .before .before .before .before .before .before .pre .0 .3)
+start-requires : tie.Need-start-requires Inv-loop μ-loop
+start-requires c κs = tt
 
 loop-holds : tie.Need-loop-holds Inv-loop μ-loop
-loop-holds c =
-    let b = c .before .before .before .before .before .before .before .before .before in
-    inked-first _ (fits c) (b .pre .0 .2) (λ i. c .slice-known2 .given i .fits) (cleared c) (b .pre .1)
+loop-holds c = inked-first _ _ _ _ _ _ _ (c .start .ensures)
 
-read-command-requires : tie.Need-read-command-requires Inv-loop μ-loop
-read-command-requires c κs = tt
+advance-requires : tie.Need-advance-requires Inv-loop μ-loop
+advance-requires c κs = tt
 
-enum-known-r : tie.Need-enum-known-r Inv-loop μ-loop
-enum-known-r c = c .match .keys1
+enum-known-m : tie.Need-enum-known-m Inv-loop μ-loop
+enum-known-m c = c .match .keys1
+
+ink-mask-requires : tie.Need-ink-mask-requires Inv-loop μ-loop
+ink-mask-requires c κs = tt
+
+loop-less : tie.Need-loop-less Inv-loop μ-loop
+loop-less c =
+    let m = c .before .before .before .before .before in
+    omega (arith, met (Paint _ _) (m .before .before .advance .ensures) (m .m .given .1) .1)
+
+loop-again : tie.Need-loop-again Inv-loop μ-loop
+loop-again c =
+    let m = c .before .before .before .before .before in
+    let x = m .before .before in
+    inked-paint (x .before .loop .inv) (x .advance .ensures) _ _ (m .m .given .1) (c .before .before .ink-mask .ensures)
+
+enum-known-d : tie.Need-enum-known-d Inv-loop μ-loop
+enum-known-d c = c .match .keys2
+
+loop-less-2 : tie.Need-loop-less-2 Inv-loop μ-loop
+loop-less-2 c =
+    let x = c .before .before .before in
+    omega (arith, met (Other _) (x .advance .ensures) (c .before .d .given .1) .1)
+
+loop-again-2 : tie.Need-loop-again-2 Inv-loop μ-loop
+loop-again-2 c =
+    let x = c .before .before .before in
+    inked-other (x .before .loop .inv) (x .advance .ensures) _ (c .before .d .given .1)
+
+-- the band's strokes, carried out on the cleared buffer
+band-inked : (c : tie.After-start Inv-loop μ-loop)
+    → let r = c .before .before .before .before .before in
+    let s = r .before .before .before .before .before in
+    let ks = bandStrokes (s .args .sheet .now) (s .args .load .now) (s .args .from) (s .args .end) in
+    inkOut (s .args .frame) ks (c .before .before .before .clear .last .0 ++ drop (s .args .frame .rows * r .row-bytes .result - 0) (s .args .buf .now))
+    ≡ inkedWith (s .args .frame) ks (s .args .buf .now)
+band-inked c =
+    let r = c .before .before .before .before .before in
+    let s = r .before .before .before .before .before in
+    ink-cleared (s .args .frame) (s .args .buf .now) (s .pre) (bandStrokes (s .args .sheet .now) (s .args .load .now) (s .args .from) (s .args .end))
+    (s .args .frame .rows * r .row-bytes .result - 0) (c .before .before .before .clear .last .0)
+    (λ i. r .before .before .before .before .slice-known .given i .fits) (omega (arith, size-is r)) (c .before .before .before .clear .ensures)
 
 enum-told : tie.Need-enum-told Inv-loop μ-loop
-enum-told c = c .match .keys2
-
-same-length : tie.Need-same-length Inv-loop μ-loop
-same-length c =
-    let l = c .before .before .before .before in
-    inked-length (l .loop .inv) ∙ l .before .before .before .clear .kept .0
+enum-told c = c .match .keys3
 
 returns : tie.Need-returns Inv-loop μ-loop
 returns c =
-    let r = c .before .before in
-    let l = r .before .before in
-    let b = l .before .before .before .before .before .before .before .before .before .before in
-    absurd (inked-whole (l .loop .inv) (r .before .loop-test .taken) (b .pre .0 .1) _ (r .read-command .ensures) _ _ (c .enum-told .given .1))
+    let x = c .before .before in
+    inked-end (x .before .loop .inv) (x .advance .ensures) (c .enum-told .given .1) ∙ band-inked (x .before .before)
 
-ink-command-requires : tie.Need-ink-command-requires Inv-loop μ-loop
-ink-command-requires c κs = tt
+same-length : tie.Need-same-length Inv-loop μ-loop
+same-length c =
+    let s = c .before .before .before .before .before .before .before .before .before .before .before .before .before .before in
+    inked-length (s .args .frame) (s .args .buf .now) (s .pre) _ _ (returns c)
 
-colour-after-requires : tie.Need-colour-after-requires Inv-loop μ-loop
-colour-after-requires c κs = tt
-
-priority-after-requires : tie.Need-priority-after-requires Inv-loop μ-loop
-priority-after-requires c κs = tt
-
--- past a whole command
-passed : (c : tie.After-priority-after Inv-loop μ-loop)
-    → (let k = c .before .before .before .before .before .before .before in
-    let l = k .before .before .before .before in
-    let a = l .before .before .before .before .before .before .before .before .before .before .args in
-    let next = k .r .given .0 .1 .0 in
-    (a .end - next < a .end - l .loop .p)
-    × Inked (a .band .width) (a .band .first) (a .band .rows) (a .sheet .now) (a .load .now) (a .from) (a .end) (l .before .before .before .clear .last .0)
-    (c .before .before .before .before .ink-command .last .0) (c .before .colour-after .result) (c .priority-after .result) next)
-passed c =
-    let k = c .before .before .before .before .before .before .before in
-    let r = k .before .before in
-    let l = r .before .before in
-    let b = l .before .before .before .before .before .before .before .before .before .before in
-    inked-next (l .loop .inv) (r .before .loop-test .taken) (b .pre .0 .1) _ (r .read-command .ensures) _ _ (fits (l .before)) (k .r .given .1)
-    (c .before .before .before .before .ink-command .ensures) (c .before .colour-after .ensures) (c .priority-after .ensures _ _)
-
-loop-less : tie.Need-loop-less Inv-loop μ-loop
-loop-less c = passed c .0
-
-loop-again : tie.Need-loop-again Inv-loop μ-loop
-loop-again c = passed c .1
-
-same-length-2 : tie.Need-same-length-2 Inv-loop μ-loop
-same-length-2 c = let l = c .before in inked-length (l .loop .inv) ∙ l .before .before .before .clear .kept .0
+enum-told-2 : tie.Need-enum-told-2 Inv-loop μ-loop
+enum-told-2 c = c .match .keys4
 
 returns-2 : tie.Need-returns-2 Inv-loop μ-loop
 returns-2 c =
-    let l = c .before in
-    let k = l .before in
-    inked-done _ (fits k) (k .before .before .before .before .before .before .before .before .before .pre .0 .2) (λ i. k .slice-known2 .given i .fits)
-    (cleared k) (l .loop .inv) (omega arith)
+    let x = c .before .before in
+    inked-refused (x .before .loop .inv) (x .advance .ensures) _ (c .enum-told2 .given .1) ∙ band-inked (x .before .before)
+
+same-length-2 : tie.Need-same-length-2 Inv-loop μ-loop
+same-length-2 c =
+    let s = c .before .before .before .before .before .before .before .before .before .before .before .before .before .before in
+    inked-length (s .args .frame) (s .args .buf .now) (s .pre) _ _ (returns-2 c)
 
 pub ink-band-spec : {M : Type 1} → statement M
 ink-band-spec =
@@ -126,20 +133,26 @@ ink-band-spec =
     (tie.spec
     Inv-loop
     μ-loop
-    cast-clear
+    cast-n
     row-bytes-requires
-    mul-clear
+    mul-n
+    sub-clear
+    part-clear-start
+    part-clear-end
     clear-requires
+    start-requires
     loop-holds
-    read-command-requires
-    enum-known-r
+    advance-requires
+    enum-known-m
+    ink-mask-requires
+    loop-less
+    loop-again
+    enum-known-d
+    loop-less-2
+    loop-again-2
     enum-told
     same-length
     returns
-    ink-command-requires
-    colour-after-requires
-    priority-after-requires
-    loop-less
-    loop-again
+    enum-told-2
     same-length-2
     returns-2)

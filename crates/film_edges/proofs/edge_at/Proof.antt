@@ -1,5 +1,6 @@
--- `film_edges::edge_at` meets its contract: no step leaves an i64, so each is the number that it stands for. Assumes nothing.
-use mathlib.Core.Path.{_≡_, refl, ap, _∙_}
+-- `film_edges::edge_at` meets its contract: no step leaves an i64, so each is the number that it stands for; over no lines the edge stays.
+-- Assumes nothing.
+use mathlib.Core.Path.{_≡_, refl, sym, ap, _∙_}
 use Prim.Native.Nat.{ℕ, _^_, _≤_, _<_}
 use native.Mathlib.Omega.{arith}
 use lib.IntN.{ℤ, pos, _+ℤ_, _-ℤ_, _*ℤ_}
@@ -8,7 +9,7 @@ use mir.Syntax.{w64}
 use mir.Val.{SFits, toZ, ofZ}
 use mir.Facts.{toZ-pos, toZ-ofZ}
 use Rattle.film_edges.specs.Edges.{ceilZ, edgeAt}
-use Rattle.film_edges.proofs.Edges.{mag-diff, mag-times, mag-ceil, mag-add}
+use Rattle.film_edges.proofs.Edges.{mag-diff, mag-times, mag-ceil, mag-add, edge-none}
 use Rattle.film_edges.proofs.edge_at.Statement.{statement}
 use Rattle.film_edges.proofs.edge_at.Tie as tie
 
@@ -56,48 +57,49 @@ module _ (c : tie.Start) where
   place-fits : SFits w64 (pos (c .args .a) +ℤ ceilZ scaled (c .args .n))
   place-fits = record { sfits = omega (arith, mag-add (c .args .a) (ceilZ scaled (c .args .n)), moved-small, c .fits .a .fits) }
 
-moved-is : (c : tie.After-ceil-signed) → c .ceil-signed .result ≡ ceilZ (scaled (c .before)) (c .before .args .n)
-moved-is c = c .ceil-signed .ensures ∙ ap (λ (x : ℤ). ceilZ x (c .before .args .n)) (divided (c .before))
+moved-is : (c : tie.After-ceil-signed) → c .ceil-signed .result ≡ ceilZ (scaled (c .before .before)) (c .before .before .args .n)
+moved-is c = c .ceil-signed .ensures ∙ ap (λ (x : ℤ). ceilZ x (c .before .before .args .n)) (divided (c .before .before))
+
+cast-first : tie.Need-cast-first
+cast-first c = omega arith
+
+returns : tie.Need-returns
+returns c = rw (a-is (c .before), c .if1 .taken) (sym (edge-none (c .before .args .a) (c .before .args .z) (c .before .args .d)))
 
 cast-lean : tie.Need-cast-lean
 cast-lean c = omega arith
 
-cast-lean-2 : tie.Need-cast-lean-2
-cast-lean-2 c = omega arith
-
 sub-lean : tie.Need-sub-lean
-sub-lean c = rw (z-is c, a-is c) (lean-fits c)
+sub-lean c = rw (z-is (c .before), a-is (c .before)) (lean-fits (c .before))
 
 cast-ceil-signed : tie.Need-cast-ceil-signed
 cast-ceil-signed c = omega arith
 
 mul-ceil-signed : tie.Need-mul-ceil-signed
-mul-ceil-signed c = rw (z-is c, a-is c, d-is c, toZ-ofZ (lean-fits c)) (scaled-fits c)
+mul-ceil-signed c = rw (z-is (c .before), a-is (c .before), d-is (c .before), toZ-ofZ (lean-fits (c .before))) (scaled-fits (c .before))
 
 ceil-signed-requires : tie.Need-ceil-signed-requires
 ceil-signed-requires c κs =
-    rw (z-is c, a-is c, d-is c, toZ-ofZ (lean-fits c), toZ-ofZ (scaled-fits c)) (omega (arith, scaled-small c), c .pre)
-
-cast-result : tie.Need-cast-result
-cast-result c = omega arith
+    rw (z-is (c .before), a-is (c .before), d-is (c .before), toZ-ofZ (lean-fits (c .before)), toZ-ofZ (scaled-fits (c .before)))
+    (omega (arith, scaled-small (c .before)), omega arith)
 
 add-result : tie.Need-add-result
-add-result c = rw (a-is (c .before), moved-is c, toZ-ofZ (moved-fits (c .before))) (place-fits (c .before))
+add-result c = rw (a-is (c .before .before), moved-is c, toZ-ofZ (moved-fits (c .before .before))) (place-fits (c .before .before))
 
-returns : tie.Need-returns
+returns-2 : tie.Need-returns-2
 unfolding edgeAt
-returns c = rw (a-is (c .before), moved-is c, toZ-ofZ (moved-fits (c .before))) (toZ-ofZ (place-fits (c .before)))
+returns-2 c = rw (a-is (c .before .before), moved-is c, toZ-ofZ (moved-fits (c .before .before))) (toZ-ofZ (place-fits (c .before .before)))
 
 pub edge-at-spec : {M : Type 1} → statement M
 edge-at-spec =
     tie.close
     (tie.spec
+    cast-first
+    returns
     cast-lean
-    cast-lean-2
     sub-lean
     cast-ceil-signed
     mul-ceil-signed
     ceil-signed-requires
-    cast-result
     add-result
-    returns)
+    returns-2)

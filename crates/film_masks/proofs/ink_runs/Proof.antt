@@ -1,27 +1,35 @@
 -- `film_masks::ink_runs` meets its contract. The loop's invariant: the runs from place q on are left to paint. The measure is the number of words left.
 -- Assumes nothing.
-use Prim.Native.Nat.{_+_, _-_, _≤_}
+use mathlib.Core.Logic.{⊎-elim}
+use mathlib.Core.Path.{_≡_, _∙_}
+use mathlib.Core.Bool.{_&&_}
+use Prim.Native.Nat.{_+_, _-_, _%_, _≤_}
 use native.Mathlib.Omega.{arith}
 use borrow.Author.Tests.{ltb-true, leb-true, ltb-false, leb-false}
-use Rattle.film_words.specs.Words.{words}
+use lib.Dec.{leb, ltb, eqb}
+use Rattle.film_words.specs.Words.{words, at}
 use Rattle.film_words.proofs.Words.{length-words}
-use Rattle.film_paint.specs.Colours.{colourWith}
-use Rattle.film_masks.proofs.Runs.{Walked, walked-first, walked-last, walked-next, walked-done, walked-short, walked-below, walked-length}
+use Rattle.film_commands.specs.Code.{colourWith}
+use Rattle.film_masks.specs.Bands.{paintedFrame}
+use Rattle.film_masks.proofs.Runs.{Walked, walked-first, run-above, walked-last, walked-next, walked-done, walked-short, walked-below, walked-length}
 use Rattle.film_masks.proofs.ink_runs.Statement.{statement}
 use Rattle.film_masks.proofs.ink_runs.Tie as tie
 
 abbrev Inv-loop : tie.InvT-loop
-Inv-loop buf₀ band s-min group colour tile end band-end s₀ lines₀ q₀ buf s lines q =
-    (q ≤ end + 1) × Walked (band .width) (band .first) (band .rows) (colourWith colour (words tile)) s-min (words group) buf₀ buf q s lines
+Inv-loop buf₀ frame s-min group colour tile n top band-end end s₀ lines₀ q₀ buf s lines q =
+    (q ≤ end + 1) × Walked frame (colourWith colour (words tile)) s-min (words group) buf₀ buf q s lines
 
 abbrev μ-loop : tie.MeasureT-loop
-μ-loop buf₀ band s-min group colour tile end band-end s₀ lines₀ q₀ buf s lines q = end - q
+μ-loop buf₀ frame s-min group colour tile n top band-end end s₀ lines₀ q₀ buf s lines q = end - q
+
+row-bytes-requires : tie.Need-row-bytes-requires Inv-loop μ-loop
+row-bytes-requires c κs = tt
+
+cast-top : tie.Need-cast-top Inv-loop μ-loop
+cast-top c = omega arith
 
 cast-band-end : tie.Need-cast-band-end Inv-loop μ-loop
 cast-band-end c = omega arith
-
-cast-band-end-2 : tie.Need-cast-band-end-2 Inv-loop μ-loop
-cast-band-end-2 c = omega arith
 
 add-band-end : tie.Need-add-band-end Inv-loop μ-loop
 add-band-end c = omega arith
@@ -30,24 +38,51 @@ word-requires : tie.Need-word-requires Inv-loop μ-loop
 word-requires c κs = tt
 
 loop-holds : tie.Need-loop-holds Inv-loop μ-loop
-loop-holds c = (omega arith, walked-first (c .word .ensures) (λ i. c .before .before .before .before .before .slice-known .given i .fits))
+loop-holds c = (omega arith, walked-first (c .word .ensures) (λ i. c .before .before .before .before .before .before .slice-known .given i .fits))
 
 add-if2 : tie.Need-add-if2 Inv-loop μ-loop
 add-if2 c = omega arith
 
-word-requires-2 : tie.Need-word-requires-2 Inv-loop μ-loop
-word-requires-2 c κs = tt
-
 add-word : tie.Need-add-word Inv-loop μ-loop
 add-word c = omega arith
+
+word-requires-2 : tie.Need-word-requires-2 Inv-loop μ-loop
+word-requires-2 c κs = tt
 
 word-requires-3 : tie.Need-word-requires-3 Inv-loop μ-loop
 word-requires-3 c κs = tt
 
-ink-run-requires : tie.Need-ink-run-requires Inv-loop μ-loop
-ink-run-requires c κs =
-    let l = c .before .before .before .before .before .before in
-    omega (arith, walked-length (l .loop .inv .1), l .before .before .before .before .before .before .before .pre)
+cast-from : tie.Need-cast-from Inv-loop μ-loop
+cast-from c = omega arith
+
+cast-stretch-in-row : tie.Need-cast-stretch-in-row Inv-loop μ-loop
+cast-stretch-in-row c = omega arith
+
+add-stretch-in-row : tie.Need-add-stretch-in-row Inv-loop μ-loop
+add-stretch-in-row c = omega arith
+
+stretch-in-row-requires : tie.Need-stretch-in-row-requires Inv-loop μ-loop
+stretch-in-row-requires c κs =
+    let l = c .before .before .before .before .before .before .before in
+    let r = l .before .before .before .before in (
+      omega (arith, r .before .before .before .before .pre, walked-length (l .loop .inv .1)),
+      r .row-bytes .ensures,
+      omega arith,
+      omega (arith, ltb-true),
+    )
+
+-- the run is painted, where the band has its line and where not
+inked : (c : tie.Joined3 Inv-loop μ-loop)
+    → let x = c .before in
+    let l = x .before .before .before .before in
+    let a = l .before .before .before .before .before .before .before .before .args in
+    let f = at (words (a .group .now)) (l .loop .q) in
+    c .if3 .buf
+    ≡ paintedFrame (a .frame) (colourWith (a .colour) (words (a .tile .now))) (λ t g. eqb t (l .loop .s) && (leb f g && ltb g (f + x .word2 .result % 32768)))
+    (l .loop .buf)
+inked c =
+    let l = c .before .before .before .before .before in
+    ⊎-elim (λ y. y .6 ∙ rw (← y .1 .ensures) (y .3 .ensures)) (λ y. y .1 ∙ run-above (l .loop .inv .1) _ _ (y .0 .left)) (c .if3 .came)
 
 add-q : tie.Need-add-q Inv-loop μ-loop
 add-q c = omega arith
@@ -63,13 +98,11 @@ loop-less c = omega (arith, leb-true)
 
 loop-again : tie.Need-loop-again Inv-loop μ-loop
 loop-again c =
-    let e = c .before .before .before in
-    let w = e .before .before in
-    let l = w .before .before .before .before .before in
-    let g = l .before .before .before .before .before .before .before .args .group .now in (
+    let x = c .before .before in
+    let l = x .before .before .before .before in
+    let g = l .before .before .before .before .before .before .before .before .args .group .now in (
       omega (arith, leb-true),
-      walked-last (l .loop .inv .1) (omega arith) (omega (arith, leb-true, length-words g)) (w .before .word2 .ensures) (w .word3 .ensures)
-          (e .ink-run .ensures) (omega arith),
+      walked-last (l .loop .inv .1) (omega arith) (omega (arith, leb-true, length-words g)) (x .word2 .ensures) (inked (c .before)) (omega arith),
     )
 
 loop-less-2 : tie.Need-loop-less-2 Inv-loop μ-loop
@@ -77,13 +110,11 @@ loop-less-2 c = omega (arith, leb-true)
 
 loop-again-2 : tie.Need-loop-again-2 Inv-loop μ-loop
 loop-again-2 c =
-    let e = c .before .before .before in
-    let w = e .before .before in
-    let l = w .before .before .before .before .before in
-    let g = l .before .before .before .before .before .before .before .args .group .now in (
+    let x = c .before .before in
+    let l = x .before .before .before .before in
+    let g = l .before .before .before .before .before .before .before .before .args .group .now in (
       omega (arith, leb-true),
-      walked-next (l .loop .inv .1) (omega arith) (omega (arith, leb-true, length-words g)) (w .before .word2 .ensures) (w .word3 .ensures)
-          (e .ink-run .ensures) (omega arith),
+      walked-next (l .loop .inv .1) (omega arith) (omega (arith, leb-true, length-words g)) (x .word2 .ensures) (inked (c .before)) (omega arith),
     )
 
 same-length : tie.Need-same-length Inv-loop μ-loop
@@ -92,7 +123,7 @@ same-length c = walked-length (c .before .before .before .loop .inv .1)
 returns : tie.Need-returns Inv-loop μ-loop
 returns c =
     let l = c .before .before .before in
-    walked-short (l .loop .inv .1) (omega (arith, leb-false, length-words (l .before .before .before .before .before .before .before .args .group .now)))
+    walked-short (l .loop .inv .1) (omega (arith, leb-false, length-words (l .before .before .before .before .before .before .before .before .args .group .now)))
 
 same-length-2 : tie.Need-same-length-2 Inv-loop μ-loop
 same-length-2 c = walked-length (c .before .before .loop .inv .1)
@@ -112,16 +143,20 @@ ink-runs-spec =
     (tie.spec
     Inv-loop
     μ-loop
+    row-bytes-requires
+    cast-top
     cast-band-end
-    cast-band-end-2
     add-band-end
     word-requires
     loop-holds
     add-if2
-    word-requires-2
     add-word
+    word-requires-2
     word-requires-3
-    ink-run-requires
+    cast-from
+    cast-stretch-in-row
+    add-stretch-in-row
+    stretch-in-row-requires
     add-q
     sub-lines
     add-s

@@ -5,9 +5,9 @@ use Prim.Native.Nat.{ℕ, _≤_}
 use native.Mathlib.Omega.{arith}
 use borrow.Author.Tests.{not-true, not-false}
 use lib.ListN.{length}
-use Rattle.row.specs.Spare.{spareClear}
+use Rattle.row_runs.specs.Spare.{spareClear}
 use Rattle.gdi_jobs.specs.Rows.{rowBytes}
-use Rattle.gdi_jobs.specs.Writers.{put, rowWriting}
+use Rattle.gdi_jobs.specs.Writers.{inRoom, rowWriting}
 use Rattle.gdi_write.proofs.Writers.{refusing, writing, put-short, put-whole}
 use Rattle.gdi_rows.proofs.Refusals.{row-width, row-length, row-spare, row-long, row-put}
 use Rattle.gdi_rows.proofs.write_row.Statement.{statement}
@@ -52,7 +52,7 @@ returns-5 c =
 -- no run is too long
 passed : (c : tie.Else5) (room : ℕ)
     → rowWriting (c .before .before .before .before .before .before .before .before .before .before .before .before .args .width) (c .before .before .before .before .before .before .before .before .before .before .before .before .args .row .now) room
-    ≡ put (rowBytes (c .before .before .before .before .before .before .before .before .before .before .before .before .args .width) (c .before .before .before .before .before .before .before .before .before .before .before .before .args .row .now)) room
+    ≡ inRoom (rowBytes (c .before .before .before .before .before .before .before .before .before .before .before .before .args .width) (c .before .before .before .before .before .before .before .before .before .before .before .before .args .row .now)) room
 passed c room =
     let m = c .before .before .before in
     let e = m .before .before in

@@ -5,8 +5,9 @@ use Prim.Native.Nat.{ℕ, _<_, _≤_}
 use native.Mathlib.Omega.{arith}
 use borrow.Author.Tests.{lt-ltb, le-ltb}
 use lib.ListN.{length}
-use Rattle.film_check.specs.Check.{refused, checkAnswer}
-use Rattle.film_check.specs.Answers.{answered}
+use Rattle.refusal.specs.Answers.{refused}
+use Rattle.film_check.specs.Check.{checkAnswer}
+use Rattle.film_check.specs.Promise.{checkedAs}
 use Rattle.lister.specs.Listing.{emptyLoad, listAnswer}
 use Rattle.lister.proofs.list.Statement.{statement}
 use Rattle.lister.proofs.list.Tie as tie
@@ -43,12 +44,12 @@ print-pages-requires c κs = tt
 returns-2 : tie.Need-returns-2
 returns-2 c =
     let k = c .before .before in
-    sym (ap answered (k .answer .given .1)) ∙ k .before .before .check .ensures ∙ short-enough _ (omega arith)
+    sym (ap checkedAs (k .answer .given .1)) ∙ k .before .before .check .ensures .answer-is ∙ short-enough _ (omega arith)
 
 returns-3 : tie.Need-returns-3
 returns-3 c =
     let k = c .before .before .before in
-    sym (ap answered (k .answer2 .given .1)) ∙ k .before .before .check .ensures ∙ short-enough _ (omega arith)
+    sym (ap checkedAs (k .answer2 .given .1)) ∙ k .before .before .check .ensures .answer-is ∙ short-enough _ (omega arith)
 
 pub list-spec : {M : Type 1} → statement M
 list-spec =

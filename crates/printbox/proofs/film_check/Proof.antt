@@ -6,7 +6,7 @@ use Rattle.printbox.proofs.film_check.Statement.{statement}
 use Rattle.printbox.proofs.film_check.Tie as tie
 
 returns : tie.Need-returns
-returns c = c .of-check .ensures ∙ ap ofCheck (c .before .check .ensures)
+returns c = c .of-check .ensures ∙ ap ofCheck (c .before .check .ensures .answer-is)
 
 pub film-check-spec : {M : Type 1} → statement M
 film-check-spec = tie.close (tie.spec (λ c κs. search needs) (λ c κs. search needs) returns)

@@ -7,7 +7,7 @@ returns : tie.Need-returns
 returns c = rw (c .before .checked .given .1)
 
 returns-2 : tie.Need-returns-2
-returns-2 c = rw (c .before .checked2 .given .1)
+returns-2 c = rw (c .before .before .checked2 .given .1)
 
 pub of-check-spec : {M : Type 1} → statement M
 of-check-spec = tie.close (tie.spec (λ c. search needs) (λ c. search needs) (λ c. search needs) returns returns-2)

@@ -1,0 +1,2 @@
+-- The laws of answers, for the proofs of the crates above.
+pub mod Answers
