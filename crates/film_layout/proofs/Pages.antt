@@ -3,10 +3,10 @@ use mathlib.Core.Path.{_≡_, sym, ap}
 use mathlib.Core.Bool.{Bool, true, false, cond}
 use mathlib.Core.List.{List, [], _∷_}
 use Prim.Native.Nat.{ℕ, zero, suc, _+_}
-use native.Mathlib.Omega.{arith}
 use lib.Dec.{leb, eqb}
 use lib.ListN.{length, take, drop}
 use Rattle.refusal.specs.Answers.{Answer, given, refused}
+use Rattle.refusal.proofs.Answers.{not-given}
 use Rattle.film_herald.specs.Herald.{Herald, Window, wholeFilm}
 use Rattle.film_layout.specs.Layout.{Span, span, Layout, pageHead, band, ends, bandsThen, pagesFrom, Page, reachPage}
 
@@ -17,8 +17,8 @@ Windowed v x = (k : ℕ) (q : Page) → reachPage k x ≡ given q → q .window 
 -- where the layout ends no page is reached
 ends-windowed : (v : Window) (a : Answer Span) → Windowed v (ends a)
 unfolding reachPage
-ends-windowed v (given x) k q e = let z : _≡_ {A = ℕ} 0 1 = cc in absurd (omega arith)
-ends-windowed v (refused n p) k q e = let z : _≡_ {A = ℕ} 0 1 = cc in absurd (omega arith)
+ends-windowed v (given x) k q e = not-given 11 0 q e
+ends-windowed v (refused n p) k q e = not-given n p q e
 
 -- a band is passed
 band-windowed : (v : Window) (x : Span) (rest : Layout) → Windowed v rest → Windowed v (band x rest)

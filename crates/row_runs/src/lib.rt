@@ -1,17 +1,11 @@
 // Runs of like dots in a row, and the dots past a width. A row is that of crate `row`.
 ghost use mathlib.Core.Path.{_≡_};
 ghost use Prim.Native.Nat.{_-_, _*_, _≤_, max};
-ghost use Rattle.row.specs.Dots.{dotAt, byteOf};
+ghost use Rattle.row.specs.Dots.{dotAt};
 ghost use Rattle.row_runs.specs.Runs.{firstNot, runEnd};
 ghost use Rattle.row_runs.specs.Spare.{spareClear};
 use row::dot;
-
-// The byte whose eight dots are v.
-fn whole(v: bool) -> u8
-    ensures { λ r. ⌜ r ≡ byteOf (λ _. v) ⌝ }
-{
-    if v { 255 } else { 0 }
-}
+use row::whole;
 
 // The first dot from `from` on, below `to`, that is not v; `to` where there is none. It looks at one dot after another.
 fn run_dots(row: &[u8], v: bool, from: usize, to: usize) -> usize
