@@ -62,7 +62,6 @@
  *   26  bytes after the document end: the first of them
  *   27  width outside its range, row of another length, row with a spare bit set (writer), output
  *       too short: 0
- *   28  a run over 16,383 dots: 0; no row of an admitted width has one, so it is never given
  *   31  a packet's checksum is not the sum of its header and body: 0
  *   32  a packet of an unknown command: 0
  *   33  an indicator or a length that does not fit the packet's command: 0
@@ -179,8 +178,9 @@ void gdi_write_page_head(uint32_t tray, uint16_t width, uint16_t height,
 
 /*
  * Writes a row as a line, in blocks of its own. The row has exactly PRINTBOX_GDI_ROW_BYTES(width).
- * Done: the bytes written, at most PRINTBOX_GDI_ROW_ROOM(width).
- * Refusals: 27; and 28, whose rule no row meets.
+ * Done: the bytes written, at most PRINTBOX_GDI_ROW_ROOM(width); an output of fewer bytes than that
+ * costs a second look at the row.
+ * Refusals: 27.
  */
 void gdi_write_row(size_t width,
                    const uint8_t *row, size_t row_length,

@@ -153,13 +153,13 @@ pub fn write_page_head(head: &PageHead, output: &mut [u8]) -> Result<usize, Refu
 
 /// Writes a row as a line, in blocks of its own, and answers the bytes written.
 ///
-/// [`row_room`] is a length of output that is always enough.
+/// [`row_room`] is a length of output that is always enough; a shorter one costs a second look at
+/// the row.
 ///
 /// # Errors
 ///
 /// 27 for a width outside 1 to 16,383, a row that has not exactly [`row_bytes`] of the width, or a
-/// spare bit that is set; then 27 where the output is shorter than the line. Number 28 is for a run
-/// over 16,383 dots, which no row has.
+/// spare bit that is set; then 27 where the output is shorter than the line.
 pub fn write_row(width: usize, row: &[u8], output: &mut [u8]) -> Result<usize, Refusal> {
     ffi::gdi_write_row(width, row, output).value()
 }

@@ -3,6 +3,7 @@
 
 mod common;
 
+use common::rows::row_of;
 use common::{agreed, answer, Answer, Entry};
 use printbox::gdi::{row_bytes, row_room, PageHead};
 
@@ -53,14 +54,6 @@ fn read(job: &[u8], offset: usize, left: usize, width: usize, room: usize) -> An
 
 fn write_row(width: usize, row: &[u8], room: usize) -> Answer {
     answer(Entry::GdiWriteRow { width }, [row, &[]], room)
-}
-
-/// A row whose bytes are all of one pattern, but for the spare bits.
-fn row_of(width: usize, pattern: u8) -> Vec<u8> {
-    let bytes = row_bytes(width);
-    let mut row = vec![pattern; bytes];
-    row[bytes - 1] &= 0xFF << (8 * bytes - width);
-    row
 }
 
 #[test]
@@ -188,7 +181,7 @@ fn room_for_rows_of_dots_in_turn() {
     }
 }
 
-/// The widest row has the longest run that a command can say, so no row meets number 28.
+/// The widest row has the longest run that a command tells, so there is a command for every run.
 #[test]
 fn longest_run() {
     for (pattern, first) in [(0xFF, 0xFF), (0x00, 0xBF)] {

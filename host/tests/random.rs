@@ -5,6 +5,7 @@ mod common;
 
 use common::header::refusals;
 use common::rounds::{rounds, wanted};
+use common::rows::row_of;
 use common::table::Table;
 use common::{Answer, Call, Entry, Outcome};
 use generate::{Film, Rng};
@@ -265,6 +266,67 @@ fn library_against_reference() {
         assert!(done >= 100, "{name} done: {done}");
     }
     assert!(table.page_ends() >= 100, "page ends: {}", table.page_ends());
+}
+
+/// Writes a row of one colour but for the dots at `others`, each an end of it, and reads it back.
+/// Answers whether it was written: it is, where the width is admitted and the output long enough.
+fn widest_row(rng: &mut Rng, width: usize, colour: u8, others: &[usize]) -> Result<bool, String> {
+    let mut row = row_of(width, colour);
+    for other in others {
+        row[other / 8] ^= 0x80 >> (other % 8);
+    }
+    // A head, two bytes for the long run, and a byte for each dot of the other colour.
+    let line = 6 + 2 + others.len();
+    let room = match rng.below(6) {
+        0 => line - 1,
+        1 => rng.index(line),
+        2 => line,
+        3 => line + rng.index(row_room(width)),
+        4 => row_room(width) - 1,
+        _ => row_room(width),
+    };
+    let call = Call {
+        entry: Entry::GdiWriteRow { width },
+        inputs: [&row, &[]],
+        buffer: &rng.bytes(room),
+    };
+    let wrote = call.agreed()?;
+    let expected = if width > WIDTH_MAX || room < line {
+        Answer::Refused(27, 0)
+    } else {
+        Answer::Done(line as u64, 0)
+    };
+    if wrote.answer != expected {
+        return Err(format!("{call}\n{wrote}\nand not {expected:?}"));
+    }
+    if !wrote.is_refused() {
+        reads_back(rng, width, &row, &wrote.buffer[..line])?;
+    }
+    Ok(!wrote.is_refused())
+}
+
+/// The longest runs there are: rows as wide as a row may be, a dot less and a dot more, all black
+/// and all white, and with a dot of the other colour at either end or at both.
+#[test]
+fn widest_rows() {
+    let (mut written, mut refused) = (0, 0);
+    rounds(400, |seed| {
+        let rng = &mut Rng::new(seed);
+        for width in [WIDTH_MAX - 1, WIDTH_MAX, WIDTH_MAX + 1] {
+            let last = width - 1;
+            for others in [&[][..], &[0], &[last], &[0, last]] {
+                for colour in [0x00, 0xFF] {
+                    if widest_row(rng, width, colour, others)? {
+                        written += 1;
+                    } else {
+                        refused += 1;
+                    }
+                }
+            }
+        }
+        Ok(())
+    });
+    println!("{written} of the widest rows written and read back, {refused} refused");
 }
 
 /// A row of a width: noise, or runs of some length.

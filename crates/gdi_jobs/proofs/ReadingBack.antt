@@ -5,12 +5,11 @@ use mathlib.Core.List.{List, [], _∷_, _++_, map, append-assoc, append-nil}
 use Prim.Native.Nat.{ℕ, suc, _+_, _-_, _*_, _/_, _%_, _<_, _≤_}
 use native.Mathlib.Omega.{arith}
 use native.Mathlib.Decide.{decLt}
-use borrow.Author.Tests.{eq-eqb, lt-ltb, le-ltb, eqb-true}
-use lib.Dec.{eqb, leb, ltb}
+use borrow.Author.Tests.{eq-eqb, lt-ltb, le-ltb}
+use lib.Dec.{leb, ltb}
 use lib.ListN.{length, drop, length-append}
 use lib.Seq.{drop-append-seam, drop-at}
 use Rattle.row.specs.Dots.{dotAt}
-use Rattle.row_runs.specs.Spare.{spareClear}
 use Rattle.row.specs.Counts.{joined}
 use Rattle.row.proofs.Dots.{Bytes, row-is}
 use Rattle.row_runs.proofs.Spare.{spare-is}
@@ -19,13 +18,14 @@ use Rattle.gdi_jobs.specs.Groups.{group-cases, pageHead, headBytes, fits
 use Rattle.gdi_jobs.specs.Pages.{toBlock, toEnd, inGap, next}
 use Rattle.gdi_jobs.specs.Jobs.{between, inPage, onward, step, stepBetween, stepInPage, longest, walk, jobAnswer, pages}
 use Rattle.gdi_jobs.specs.Lines.{lineDot, lineBytes, lineRow, Line, line, withCommand, lineFrom, lineAt, rowAfter, nextLine, afterPage, answerOf}
-use Rattle.gdi_jobs.specs.Rows.{runsFrom, runs, longestRun, commandBytes, blocks, blockBytes, rowBytes}
-use Rattle.gdi_jobs.specs.Writers.{Writing, writes, refuses, inRoom, PageHead, pageHeadBytes, pageHeadWriting, rowWriting}
+use Rattle.gdi_jobs.specs.Rows.{runsFrom, runs, commandBytes, blocks, blockBytes, rowBytes}
+use Rattle.gdi_jobs.specs.Writers.{Writing, writes, refuses, inRoom, PageHead, pageHeadBytes, pageHeadWriting, fitsWidth, rowWriting}
 use Rattle.gdi_jobs.specs.ReadingBack.{RowReadsBack, TakesRow, ReadsRow, Page, All, none, more, TakesPage, rowsBytes, pageBytes, jobBytes, ReadsRows, no-more, one-more, WrittenJob}
 use Rattle.gdi_jobs.proofs.Groups.{never, admitted-is, fields-is}
 use Rattle.gdi_jobs.proofs.Jobs.{walk-onward, walk-done, head-passed}
 use Rattle.gdi_jobs.proofs.Lines.{line-block, line-end, line-last, line-command}
 use Rattle.gdi_jobs.proofs.Passing.{line-passed}
+use Rattle.gdi_jobs.proofs.Writers.{Writable, writable-is}
 use Rattle.gdi_jobs.proofs.Rows.{Some, runs-dot, runs-some, dotSum, runs-sum, command-next, block-group, block-length, block-drop, filling, later, blocks-are}
 
 -- ---- the line that is written
@@ -147,29 +147,16 @@ row-line width row rest st p h = go (runs width row) (runs-sum (dotAt row) 0 wid
 -- ---- a row
 
 -- what the writer asks of a row
-pub record Taken (width : ℕ) (row : List ℕ) : Type 0 where
-  pub wide : admitted width ≡ true
-  pub long : length row ≡ lineBytes width
-  pub clear : spareClear row width ≡ true
-
-pub row-taken : (width : ℕ) (row : List ℕ) → TakesRow width row → Taken width row
+pub row-taken : (width : ℕ) (row : List ℕ) → TakesRow width row → Writable width row
 unfolding rowWriting
-row-taken width row t =
-    let h =
-    go (admitted width) (eqb (length row) (lineBytes width)) (spareClear row width) (ltb 16383 (longestRun (runs width row)))
-    (inRoom (rowBytes width row) (length (rowBytes width row))) (rowBytes width row) (t .written) in
-    record { wide = h .0; long = eqb-true (length row) (lineBytes width) (h .1 .0); clear = h .1 .1 }
+row-taken width row t = writable-is width row .holds (go (admitted width && fitsWidth row width) (inRoom (rowBytes width row) (length (rowBytes width row))) (rowBytes width row) (t .written))
   where
-    go : (a l s r : Bool) (w : Writing) (bs : List ℕ)
-        → cond (not a) (refuses 27 0) (cond (not l) (refuses 27 0) (cond (not s) (refuses 27 0) (cond r (refuses 28 0) w))) ≡ writes bs
-        → (a ≡ true) × ((l ≡ true) × (s ≡ true))
-    go false l s r w bs e = never (cc)
-    go true false s r w bs e = never (cc)
-    go true true false r w bs e = never (cc)
-    go true true true r w bs e = (refl, (refl, refl))
+    go : (b : Bool) (w : Writing) (bs : List ℕ) → cond b w (refuses 27 0) ≡ writes bs → b ≡ true
+    go true w bs e = refl
+    go false w bs e = never (cc)
 
 -- the row of its runs
-runs-row : (width : ℕ) (row : List ℕ) → Bytes row → Taken width row → lineRow width (runs width row) ≡ row
+runs-row : (width : ℕ) (row : List ℕ) → Bytes row → Writable width row → lineRow width (runs width row) ≡ row
 unfolding lineRow runs
 runs-row width row bytes t =
     sym (row-is (lineBytes width) (λ f. ltb f width && lineDot (runsFrom (dotAt row) 0 width) f) row bytes (t .long) (λ f l. go f (decLt f width)))
@@ -189,13 +176,12 @@ pub row-reads-back : RowReadsBack
 unfolding RowReadsBack rowAfter
 row-reads-back width row before after t l =
     let taken = row-taken width row t in
-    let h = admitted-is width .holds (taken .wide) in
     let bytes = rowBytes width row in
     let job = before ++ (bytes ++ after) in
     let is : lineAt job (length before) 0 width (length row) ≡ line (runs width row) (length before + length bytes) 0 =
-    line-at job (length before) 0 width (length row) (taken .wide) (taken .long) l (omega (arith, length-append before (bytes ++ after)))
+    line-at job (length before) 0 width (length row) (admitted-is width .said (taken .wide)) (taken .long) l (omega (arith, length-append before (bytes ++ after)))
     ∙ ap (lineFrom width false 0 0 0 (length before)) (drop-append-seam before (bytes ++ after))
-    ∙ row-line width row after false (length before) (h .0) in
+    ∙ row-line width row after false (length before) (taken .wide .0) in
     record { answers = ap answerOf is; leaves = λ held. ap (λ (x : Line). rowAfter width x held) is ∙ runs-row width row (t .bytes) taken }
 
 -- ---- a page
@@ -240,11 +226,10 @@ rows-passed n width height [] none lines p rest h =
     ap₂ (λ (i q : ℕ). walk (inPage n width height i 0 0) 0 q rest) (omega arith) (omega arith)
 rows-passed n width height (row ∷ rows) (more t ts) lines p rest h =
     let taken = row-taken width row t in
-    let w = admitted-is width .holds (taken .wide) in
     let b = rowBytes width row in
     let on = written width rows ++ rest in
     let q = p + length b in
-    let passes = line-passed n width height lines (omega arith) false 0 0 p (b ++ on) q 0 (ap answerOf (row-line width row on false p (w .0))) in
+    let passes = line-passed n width height lines (omega arith) false 0 0 p (b ++ on) q 0 (ap answerOf (row-line width row on false p (taken .wide .0))) in
     let k : q - p ≡ length b = omega arith in
     let i : lines + 1 + length rows ≡ lines + suc (length rows) = omega arith in
     let j : q + length (written width rows) ≡ p + length (b ++ written width rows) = omega (arith, length-append b (written width rows)) in

@@ -5,20 +5,19 @@ use mathlib.Core.List.{List, [], _∷_, _++_}
 use Prim.Native.Nat.{ℕ, _+_, _*_, _<_, _≤_}
 use native.Mathlib.Omega.{arith}
 use native.Mathlib.Decide.{decLt, decLe}
-use borrow.Author.Tests.{eq-eqb, lt-ltb, le-ltb, le-leb, lt-leb}
+use borrow.Author.Tests.{lt-ltb, le-ltb, le-leb, lt-leb}
 use lib.Dec.{leb}
 use lib.ListN.{length, length-append}
 use Rattle.row.specs.Dots.{dotAt}
 use Rattle.row.specs.Counts.{joined}
 use Rattle.gdi_jobs.specs.Commands.{Command, run, dotsOf}
-use Rattle.gdi_jobs.specs.Lines.{lineBytes}
 use Rattle.gdi_jobs.specs.Rows.{runs, commandBytes, blocks, blockBytes, rowBytes}
 use Rattle.gdi_jobs.specs.Writers.{rowWriting}
 use Rattle.gdi_jobs.specs.ReadingBack.{All, none, more}
 use Rattle.gdi_jobs.specs.Room.{rowRoom, RoomForRow}
-use Rattle.gdi_jobs.proofs.Groups.{admitted-is}
-use Rattle.gdi_jobs.proofs.Rows.{Some, runs-some, dotSum, runs-sum, no-run-too-long, command-length, block-length}
+use Rattle.gdi_jobs.proofs.Rows.{Some, runs-some, dotSum, runs-sum, command-length, block-length}
 use Rattle.gdi_jobs.proofs.ReadingBack.{bytesOf, row-taken}
+use Rattle.gdi_jobs.proofs.Writers.{writable-is}
 
 -- a command has no more bytes than dots, and one of two bytes has many dots more
 command-dots : (c : Command) → Some c → 2 * length (commandBytes c) ≤ dotsOf c + 1
@@ -64,7 +63,7 @@ within cur (c ∷ cs) (more d ds) h =
         })
 
 -- a line's bytes
-row-within : (width : ℕ) (row : List ℕ) → 1 ≤ width → length (rowBytes width row) ≤ rowRoom width
+pub row-within : (width : ℕ) (row : List ℕ) → 1 ≤ width → length (rowBytes width row) ≤ rowRoom width
 unfolding rowBytes rowRoom runs
 row-within width row h =
     let sum = runs-sum (dotAt row) 0 width in
@@ -74,12 +73,5 @@ pub room-for-row : RoomForRow
 unfolding RoomForRow rowWriting
 room-for-row width row room t h =
     let taken = row-taken width row t in
-    let wide = admitted-is width .holds (taken .wide) in
-    let fits : length (rowBytes width row) ≤ room = omega (arith, row-within width row (wide .0)) in
-    rw (
-      taken .wide,
-      eq-eqb (length row) (lineBytes width) (taken .long),
-      taken .clear,
-      no-run-too-long width row (taken .wide),
-      le-leb (length (rowBytes width row)) room fits,
-    ) refl
+    let fits : length (rowBytes width row) ≤ room = omega (arith, row-within width row (taken .wide .0)) in
+    rw (writable-is width row .said taken, le-leb (length (rowBytes width row)) room fits) refl

@@ -8,18 +8,17 @@ use native.Mathlib.Decide.{decLt, decLe}
 use borrow.Author.Tests.{eq-eqb, ne-eqb, lt-ltb, le-ltb, le-leb, lt-leb}
 use lib.Dec.{leb, ltb}
 use lib.ListN.{length, drop, length-append}
-use Rattle.row.specs.Dots.{bit, dotAt}
+use Rattle.row.specs.Dots.{bit}
 use Rattle.row_runs.specs.Runs.{runEnd}
 use Rattle.truth.proofs.Tests.{ltb-is, is-same}
 use Rattle.row.proofs.Dots.{bit-lt}
 use Rattle.row_runs.proofs.Runs.{run-end-le, run-end-past, run-like, run-differs}
 use Rattle.gdi_jobs.specs.Commands.{Command, run, dotsOf, blackBit, command}
-use Rattle.gdi_jobs.specs.Groups.{admitted, block, fits, group}
+use Rattle.gdi_jobs.specs.Groups.{block, fits, group}
 use Rattle.gdi_jobs.specs.Pages.{toCommand, next}
 use Rattle.gdi_jobs.specs.Lines.{lineDot}
-use Rattle.gdi_jobs.specs.Rows.{addDot, runsFrom, runs, longestRun, commandBytes, blocks, blockBytes}
+use Rattle.gdi_jobs.specs.Rows.{addDot, runsFrom, commandBytes, blocks, blockBytes}
 use Rattle.gdi_jobs.specs.ReadingBack.{All, none, more}
-use Rattle.gdi_jobs.proofs.Groups.{admitted-is}
 
 -- ---- a dot in front of runs
 
@@ -144,20 +143,11 @@ unfolding runsFrom dotSum
 runs-sum d f zero = refl
 runs-sum d f (suc n) = sum-addDot (d f) (runsFrom d (suc f) n) ∙ ap suc (runs-sum d (suc f) n)
 
-longest-le : (rs : List Command) → longestRun rs ≤ dotSum rs
-unfolding longestRun dotSum
-longest-le [] = omega arith
-longest-le (run black n ∷ rs) = omega (arith, longest-le rs)
-
--- no run is longer than the row is wide
-pub longest-run-le : (width : ℕ) (row : List ℕ) → longestRun (runs width row) ≤ width
-unfolding runs
-longest-run-le width row = omega (arith, longest-le (runsFrom (dotAt row) 0 width), runs-sum (dotAt row) 0 width)
-
--- no row of an admitted width has a run over 16,383 dots
-pub no-run-too-long : (width : ℕ) (row : List ℕ) → admitted width ≡ true → ltb 16383 (longestRun (runs width row)) ≡ false
-no-run-too-long width row e =
-    let h = admitted-is width .holds e in le-ltb 16383 (longestRun (runs width row)) (omega (arith, longest-run-le width row))
+-- and none of them has more dots than all together
+pub runs-most : (cs : List Command) (n : ℕ) → dotSum cs ≤ n → All (λ (c : Command). dotsOf c ≤ n) cs
+unfolding dotSum
+runs-most [] n h = none
+runs-most (c ∷ cs) n h = more {x = c} (omega arith) (runs-most cs n (omega arith))
 
 -- ---- the bytes of a command
 

@@ -11,8 +11,8 @@ use Rattle.row.specs.Counts.{joined}
 use Rattle.gdi_jobs.specs.Groups.{headBytes, pageEndBytes, documentEndBytes, admitted, fields, examplePage}
 use Rattle.gdi_jobs.specs.Jobs.{longest, jobAnswer, pages, blockOf}
 use Rattle.gdi_jobs.specs.Lines.{lineBytes, lineAt, rowAfter, LineAnswer, nextLine, afterPage, answerOf}
-use Rattle.gdi_jobs.specs.Rows.{runsFrom, runs, longestRun, commandBytes, blocks, blockBytes, rowBytes}
-use Rattle.gdi_jobs.specs.Writers.{writes, PageHead, pageHeadBytes, pageHeadWriting, rowWriting, exampleHead}
+use Rattle.gdi_jobs.specs.Rows.{runsFrom, runs, commandBytes, blocks, blockBytes, rowBytes}
+use Rattle.gdi_jobs.specs.Writers.{writes, PageHead, pageHeadBytes, pageHeadWriting, fitsWidth, rowWriting, exampleHead}
 
 -- ---- a row
 
@@ -104,7 +104,7 @@ pub record BackCases : Type 0 where
   pub a-job : jobBytes (twoRows ∷ []) ≡ headBytes ++ (examplePage ++ (blockOf 1 ++ (0x43 ∷ []) ++ blockOf 1 ++ (0x03 ∷ []) ++ pageEndBytes) ++ documentEndBytes)
 
 pub back-cases : BackCases
-unfolding jobBytes pageBytes rowsBytes joined pageHeadBytes pageHeadWriting rowWriting lineBytes runs runsFrom longestRun commandBytes blocks blockBytes rowBytes admitted fields spareClear clearFrom dotAt dotIn
+unfolding jobBytes pageBytes rowsBytes joined pageHeadBytes pageHeadWriting fitsWidth rowWriting lineBytes runs runsFrom commandBytes blocks blockBytes rowBytes admitted fields spareClear clearFrom dotAt dotIn
 back-cases =
     record {
       a-page = record {

@@ -2,7 +2,7 @@
 use mathlib.Core.Path.{_≡_, refl}
 use mathlib.Core.Bool.{Bool, true, false, cond, Bool·beq}
 use mathlib.Core.List.{List, [], _∷_, _++_, map}
-use Prim.Native.Nat.{ℕ, zero, suc, _+_, _*_, _/_, _%_, max}
+use Prim.Native.Nat.{ℕ, zero, suc, _+_, _*_, _/_, _%_}
 use lib.Dec.{leb, ltb}
 use lib.ListN.{length}
 use Rattle.row.specs.Dots.{bit, dotAt}
@@ -25,11 +25,6 @@ runsFrom d f (suc n) = addDot (d f) (runsFrom d (suc f) n)
 -- of a row: it starts with the colour of dot 0
 unfoldable pub runs : (width : ℕ) (row : List ℕ) → List Command
 runs width row = runsFrom (dotAt row) 0 width
-
--- the dots of the longest of them
-unfoldable pub longestRun : List Command → ℕ
-longestRun [] = 0
-longestRun (run black n ∷ rs) = max n (longestRun rs)
 
 -- ---- their bytes
 
@@ -66,14 +61,11 @@ pub record RowCases : Type 0 where
   pub three-runs : runs 12 (0x70 ∷ 0x00 ∷ []) ≡ run false 1 ∷ run true 3 ∷ run false 8 ∷ []
   pub black-first : runs 3 (0xE0 ∷ []) ≡ run true 3 ∷ []
   pub over-a-byte : runs 10 (0x01 ∷ 0xC0 ∷ []) ≡ run false 7 ∷ run true 3 ∷ []
-  pub longest : longestRun (runs 12 (0x70 ∷ 0x00 ∷ [])) ≡ 8
   pub one-byte : commandBytes (run true 26) ≡ 0x5A ∷ []
   pub white-63 : commandBytes (run false 63) ≡ 0x3F ∷ []
   pub white-64 : commandBytes (run false 64) ≡ 0x80 ∷ 0x01 ∷ []
   pub black-1649 : commandBytes (run true 1649) ≡ 0xF1 ∷ 0x19 ∷ []
   pub most : commandBytes (run true 16383) ≡ 0xFF ∷ 0xFF ∷ []
-  -- 16,383 dots of one colour are one command
-  pub most-of-one-colour : runsFrom (λ f. true) 0 16383 ≡ run true 16383 ∷ []
   pub a-row : rowBytes 3 (0xE0 ∷ []) ≡ 0x12 ∷ 0x00 ∷ 0x01 ∷ 0x00 ∷ 0x00 ∷ 0x00 ∷ 0x43 ∷ []
   pub in-order : blocks [] (run true 1 ∷ run false 2 ∷ []) ≡ (0x41 ∷ 0x02 ∷ []) ∷ []
   pub full-block : map length (blocks [] (turns 255)) ≡ 255 ∷ []
@@ -84,19 +76,17 @@ pub record RowCases : Type 0 where
       ≡ 0x12 ∷ 0x00 ∷ 0x01 ∷ 0x00 ∷ 0x00 ∷ 0x00 ∷ 0x41 ∷ 0x12 ∷ 0x00 ∷ 0x02 ∷ 0x00 ∷ 0x00 ∷ 0x00 ∷ 0x80 ∷ 0x01 ∷ []
 
 pub row-cases : RowCases
-unfolding runs runsFrom longestRun commandBytes blocks blockBytes rowBytes joined dotAt dots.dotIn
+unfolding runs runsFrom commandBytes blocks blockBytes rowBytes joined dotAt dots.dotIn
 row-cases =
     record {
       three-runs = refl;
       black-first = refl;
       over-a-byte = refl;
-      longest = refl;
       one-byte = refl;
       white-63 = refl;
       white-64 = refl;
       black-1649 = refl;
       most = refl;
-      most-of-one-colour = refl;
       a-row = refl;
       in-order = refl;
       full-block = refl;

@@ -1,9 +1,9 @@
 -- The writers: what each puts at the beginning of its output, or the refusal that it gives. Every refusal of a writer has place 0.
 use mathlib.Core.Path.{_≡_}
-use mathlib.Core.Bool.{not, cond}
+use mathlib.Core.Bool.{Bool, _&&_, cond}
 use mathlib.Core.List.{List, [], _∷_, _++_}
 use Prim.Native.Nat.{ℕ, _+_, _*_, _/_, _%_}
-use lib.Dec.{eqb, leb, ltb}
+use lib.Dec.{eqb, leb}
 use lib.ListN.{length, drop}
 use Rattle.row.specs.Dots as dots
 use Rattle.row.specs.Dots.{dotAt}
@@ -11,7 +11,7 @@ use Rattle.row_runs.specs.Spare.{clearFrom, spareClear}
 use Rattle.row.specs.Counts.{joined}
 use Rattle.gdi_jobs.specs.Groups.{codes, headBytes, pageEndBytes, documentEndBytes, admitted, fields, examplePage}
 use Rattle.gdi_jobs.specs.Lines.{lineBytes}
-use Rattle.gdi_jobs.specs.Rows.{runsFrom, runs, longestRun, commandBytes, blocks, blockBytes, rowBytes}
+use Rattle.gdi_jobs.specs.Rows.{runsFrom, runs, commandBytes, blocks, blockBytes, rowBytes}
 
 -- the bytes that are written, or a refusal
 pub data Writing : Type 0 where
@@ -63,14 +63,13 @@ pageHeadWriting h room = cond (fields (h .width) (h .height) (h .toner)) (inRoom
 
 -- ---- a row
 
--- 27 for the width, for a row of another length and for a spare bit that is set; then 28 for a run over 16,383 dots; then 27 for the output
+-- whether a row has just the bytes of its width, and no spare bit is set
+unfoldable pub fitsWidth : (row : List ℕ) (width : ℕ) → Bool
+fitsWidth row width = eqb (length row) (lineBytes width) && spareClear row width
+
+-- 27 for the width and the row, then 27 for the output
 unfoldable pub rowWriting : (width : ℕ) (row : List ℕ) (room : ℕ) → Writing
-rowWriting width row room =
-    cond (not (admitted width)) (refuses 27 0)
-    (cond (not (eqb (length row) (lineBytes width))) (refuses 27 0)
-    (cond (not (spareClear row width)) (refuses 27 0)
-    (cond (ltb 16383 (longestRun (runs width row))) (refuses 28 0)
-    (inRoom (rowBytes width row) room))))
+rowWriting width row room = cond (admitted width && fitsWidth row width) (inRoom (rowBytes width row) room) (refuses 27 0)
 
 -- ---- paper
 
@@ -135,5 +134,5 @@ pub record WriterCases : Type 0 where
   pub stays : outputAfter (refuses 27 0) (1 ∷ 2 ∷ []) ≡ 1 ∷ 2 ∷ []
 
 pub writer-cases : WriterCases
-unfolding headWriting pageEndWriting documentEndWriting pageHeadWriting pageHeadBytes rowWriting linefillOf lineBytes runs runsFrom longestRun commandBytes blocks blockBytes rowBytes joined codes headBytes admitted fields spareClear clearFrom dotAt dots.dotIn
+unfolding headWriting pageEndWriting documentEndWriting pageHeadWriting pageHeadBytes fitsWidth rowWriting linefillOf lineBytes runs runsFrom commandBytes blocks blockBytes rowBytes joined codes headBytes admitted fields spareClear clearFrom dotAt dots.dotIn
 writer-cases = search

@@ -1,38 +1,54 @@
--- Laws of the row writer's refusals: each after the tests before it. Assumes nothing.
-use mathlib.Core.Path.{_≡_, refl}
+-- Laws of what the row writer asks for: of a row, and of the output. Assumes nothing.
+use mathlib.Core.Path.{_≡_, refl, sym}
 use mathlib.Core.Bool.{true, false}
 use mathlib.Core.List.{List}
-use Prim.Native.Nat.{ℕ, _+_, _/_, _<_, _≤_}
-use borrow.Author.Tests.{eq-eqb, ne-eqb, lt-ltb, le-ltb}
+use Prim.Native.Nat.{ℕ, _+_, _/_, _≤_}
+use native.Mathlib.Omega.{arith}
+use borrow.Author.Tests.{eq-eqb, ne-eqb, le-leb}
+use lib.Dec.{leb}
 use lib.ListN.{length}
 use Rattle.row_runs.specs.Spare.{spareClear}
 use Rattle.gdi_jobs.specs.Lines.{lineBytes}
-use Rattle.gdi_jobs.specs.Rows.{runs, longestRun, rowBytes}
-use Rattle.gdi_jobs.specs.Writers.{refuses, inRoom, rowWriting}
+use Rattle.gdi_jobs.specs.Rows.{rowBytes}
+use Rattle.gdi_jobs.specs.Writers.{writes, refuses, fitsWidth, rowWriting}
+use Rattle.gdi_jobs.specs.Room.{rowRoom}
 use Rattle.gdi_jobs.proofs.Groups.{admitted-is}
+use Rattle.gdi_jobs.proofs.Room.{row-within}
 use Rattle.gdi_write.proofs.Writers.{admitted-no}
 
+-- ---- the row
+
+-- of another length
+pub length-no : (row : List ℕ) (width : ℕ) → (length row ≡ (width + 7) / 8 → ⊥) → false ≡ fitsWidth row width
+unfolding fitsWidth lineBytes
+length-no row width n = rw (ne-eqb _ _ n) refl
+
+-- of the width's length: its spare dots say
+pub length-yes : (row : List ℕ) (width : ℕ) → length row ≡ (width + 7) / 8 → spareClear row width ≡ fitsWidth row width
+unfolding fitsWidth lineBytes
+length-yes row width l = rw (eq-eqb _ _ l) refl
+
+-- ---- the answer: each after the tests before it
+
 module _ (width : ℕ) (row : List ℕ) (room : ℕ) where
-  pub row-width : ((1 ≤ width) × (width ≤ 16383) → ⊥) → rowWriting width row room ≡ refuses 27 0
+  pub width-refused : ((1 ≤ width) × (width ≤ 16383) → ⊥) → rowWriting width row room ≡ refuses 27 0
   unfolding rowWriting
-  row-width n = rw (admitted-no width n) refl
+  width-refused n = rw (admitted-no width n) refl
 
   module _ (w : (1 ≤ width) × (width ≤ 16383)) where
-    pub row-length : (length row ≡ (width + 7) / 8 → ⊥) → rowWriting width row room ≡ refuses 27 0
-    unfolding rowWriting lineBytes
-    row-length n = rw (admitted-is width .said w, ne-eqb _ _ n) refl
+    pub row-refused : fitsWidth row width ≡ false → rowWriting width row room ≡ refuses 27 0
+    unfolding rowWriting
+    row-refused e = rw (admitted-is width .said w, e) refl
 
-    module _ (l : length row ≡ (width + 7) / 8) where
-      pub row-spare : spareClear row width ≡ false → rowWriting width row room ≡ refuses 27 0
-      unfolding rowWriting lineBytes
-      row-spare e = rw (admitted-is width .said w, eq-eqb _ _ l, e) refl
+    module _ (f : fitsWidth row width ≡ true) where
+      pub output-refused : leb (length (rowBytes width row)) room ≡ false → rowWriting width row room ≡ refuses 27 0
+      unfolding rowWriting
+      output-refused e = rw (admitted-is width .said w, f, e) refl
 
-      module _ (s : spareClear row width ≡ true) where
-        pub row-long : 16383 < longestRun (runs width row) → rowWriting width row room ≡ refuses 28 0
-        unfolding rowWriting lineBytes
-        row-long h = rw (admitted-is width .said w, eq-eqb _ _ l, s, lt-ltb _ _ h) refl
+      pub row-written : leb (length (rowBytes width row)) room ≡ true → rowWriting width row room ≡ writes (rowBytes width row)
+      unfolding rowWriting
+      row-written e = rw (admitted-is width .said w, f, e) refl
 
-        -- and no refusal
-        pub row-put : longestRun (runs width row) ≤ 16383 → rowWriting width row room ≡ inRoom (rowBytes width row) room
-        unfolding rowWriting lineBytes
-        row-put h = rw (admitted-is width .said w, eq-eqb _ _ l, s, le-ltb _ _ h) refl
+  -- an output that is long enough for any line of the width is so for this one
+  pub room-yes : 1 ≤ width → rowRoom width ≤ room → true ≡ leb (length (rowBytes width row)) room
+  room-yes w h = sym (le-leb (length (rowBytes width row)) room (omega (arith, row-within width row w)))

@@ -3,7 +3,7 @@ use mathlib.Core.Path.{_≡_, refl, sym, ap, _∙_}
 use mathlib.Core.Bool.{Bool, cond}
 use mathlib.Core.Logic.{_⊎_, inl, inr, ⊎-elim}
 use mathlib.Core.List.{List, [], _∷_, _++_, append-assoc, append-nil, map}
-use Prim.Native.Nat.{ℕ, _+_, _-_, _*_, _/_, _%_, _<_, _≤_, max}
+use Prim.Native.Nat.{ℕ, _+_, _-_, _*_, _/_, _%_, _<_, _≤_}
 use native.Mathlib.Omega.{arith}
 use native.Mathlib.Decide.{decLe}
 use borrow.Author.Tests.{lt-ltb, le-ltb, le-leb, lt-leb}
@@ -14,7 +14,7 @@ use Rattle.row_runs.specs.Runs.{runEnd}
 use Rattle.row.specs.Counts.{joined}
 use Rattle.row_runs.proofs.Runs.{run-end-le, run-end-past}
 use Rattle.gdi_jobs.specs.Commands.{Command, run}
-use Rattle.gdi_jobs.specs.Rows.{runsFrom, runs, longestRun, commandBytes, blocks, blockBytes, rowBytes}
+use Rattle.gdi_jobs.specs.Rows.{runsFrom, runs, commandBytes, blocks, blockBytes, rowBytes}
 use Rattle.gdi_jobs.proofs.Rows.{runs-first, runs-none}
 use Rattle.gdi_rows.specs.Places.{putAt}
 use Rattle.gdi_rows.proofs.Places.{Held, held-none, held-as, held-more, held-over, held-self, held-before}
@@ -91,7 +91,7 @@ run-within row {from} {width} h e = (rw e (run-end-past (dotAt row) from width h
 
 -- The walk stands at dot `from`. The commands before it are put into blocks: `finished` are the bytes of all but the last of these, whose head comes
 -- after them, and `block` are those of its commands.
-pub record Walked (width : ℕ) (row out₀ : List ℕ) (from head size longest : ℕ) (out : List ℕ) : Type 0 where
+pub record Walked (width : ℕ) (row out₀ : List ℕ) (from head size : ℕ) (out : List ℕ) : Type 0 where
   pub finished : List ℕ
   pub block : List ℕ
   pub place : head ≡ length finished
@@ -100,14 +100,13 @@ pub record Walked (width : ℕ) (row out₀ : List ℕ) (from head size longest 
   pub within : from ≤ width
   pub few : head + size ≤ 8 * from
   pub bytes : rowBytes width row ≡ finished ++ joined (map blockBytes (blocks block (runsFrom (dotAt row) from (width - from))))
-  pub long : longestRun (runs width row) ≡ max longest (longestRun (runsFrom (dotAt row) from (width - from)))
   pub held : Held out₀ (finished ++ (blockHead size ++ block)) out
 
 -- a block without commands is put before the walk
 pub head-held : {out₀ out : List ℕ} → out ≡ putAt (blockHead 0) 0 out₀ → Held out₀ (blockHead 0) out
 head-held {out₀} e = held-more out₀ [] (blockHead 0) (held-none out₀) refl e
 
-pub walked-first : (width : ℕ) (row : List ℕ) {out₀ out : List ℕ} → Held out₀ (blockHead 0) out → Walked width row out 0 0 0 0 out
+pub walked-first : (width : ℕ) (row : List ℕ) {out₀ out : List ℕ} → Held out₀ (blockHead 0) out → Walked width row out 0 0 0 out
 unfolding rowBytes runs
 walked-first width row h =
     let z : width ≡ width - 0 = omega arith in
@@ -120,19 +119,18 @@ walked-first width row h =
       within = omega arith;
       few = omega arith;
       bytes = ap (λ (n : ℕ). joined (map blockBytes (blocks [] (runsFrom (dotAt row) 0 n)))) z;
-      long = omega (arith, ap (λ (n : ℕ). longestRun (runsFrom (dotAt row) 0 n)) z);
       held = held-self h;
     }
 
 -- the next run: the block that takes its command gets its head anew, with the new size
-pub walked-next : {width : ℕ} {row out₀ out out₁ out₂ : List ℕ} {from head size longest end n head′ size′ longest′ at : ℕ} {black : Bool}
-    → Walked width row out₀ from head size longest out → from < width → end ≡ runEnd (dotAt row) from width → black ≡ dotAt row from
+pub walked-next : {width : ℕ} {row out₀ out out₁ out₂ : List ℕ} {from head size end n head′ size′ at : ℕ} {black : Bool}
+    → Walked width row out₀ from head size out → from < width → end ≡ runEnd (dotAt row) from width → black ≡ dotAt row from
     → n ≡ length (commandBytes (run black (end - from)))
-    → head′ ≡ cond (leb (size + n) 255) head (head + 6 + size) → size′ ≡ cond (leb (size + n) 255) (size + n) n → longest′ ≡ max longest (end - from)
+    → head′ ≡ cond (leb (size + n) 255) head (head + 6 + size) → size′ ≡ cond (leb (size + n) 255) (size + n) n
     → at ≡ head′ + 6 + size′ - n → out₁ ≡ putAt (blockHead size′) head′ out → out₂ ≡ putAt (commandBytes (run black (end - from))) at out₁
-    → Walked width row out₀ end head′ size′ longest′ out₂
-unfolding joined longestRun
-walked-next {width} {row} {out₀} {out} {out₁} {out₂} {from} {head} {size} {longest} {end} {n} {head′} {size′} {longest′} {at} {black} w h e b k i s g p o₁ o₂ =
+    → Walked width row out₀ end head′ size′ out₂
+unfolding joined
+walked-next {width} {row} {out₀} {out} {out₁} {out₂} {from} {head} {size} {end} {n} {head′} {size′} {at} {black} w h e b k i s p o₁ o₂ =
     ⊎-elim here next (block-place head size n i s)
   where
     d : ℕ → Bool
@@ -156,10 +154,7 @@ walked-next {width} {row} {out₀} {out} {out₁} {out₂} {from} {head} {size} 
     two : n ≤ 2
     two = rw k (command-le black (end - from))
 
-    long′ : longestRun (runs width row) ≡ max longest′ (longestRun rest)
-    long′ = omega (arith, w .long, ap longestRun first)
-
-    here : (size + n ≤ 255) × (head′ ≡ head) × (size′ ≡ size + n) → Walked width row out₀ end head′ size′ longest′ out₂
+    here : (size + n ≤ 255) × (head′ ≡ head) × (size′ ≡ size + n) → Walked width row out₀ end head′ size′ out₂
     here t =
         let f = w .finished in
         let blk = w .block in
@@ -177,11 +172,10 @@ walked-next {width} {row} {out₀} {out} {out₁} {out₂} {from} {head} {size} 
           bytes =
               w .bytes ∙ ap (λ (cs : List Command). f ++ joined (map blockBytes (blocks blk cs))) first
               ∙ ap (λ (bs : List (List ℕ)). f ++ joined (map blockBytes bs)) (blocks-here blk c rest r);
-          long = long′;
           held = held-as (held-more out₀ _ m (held-over out₀ f (blockHead size) blk (blockHead size′) (w .held) (t .1 ∙ w .place) refl o₁) q o₂) (simp append-assoc);
         }
 
-    next : (255 < size + n) × (head′ ≡ head + 6 + size) × (size′ ≡ n) → Walked width row out₀ end head′ size′ longest′ out₂
+    next : (255 < size + n) × (head′ ≡ head + 6 + size) × (size′ ≡ n) → Walked width row out₀ end head′ size′ out₂
     next t =
         let f = w .finished ++ (blockHead size ++ w .block) in
         let z : length f ≡ head + 6 + size = simp length-append (omega (arith, w .place, w .filled)) in
@@ -200,21 +194,19 @@ walked-next {width} {row} {out₀} {out} {out₁} {out₂} {from} {head} {size} 
               ∙ ap (λ (bs : List (List ℕ)). w .finished ++ joined (map blockBytes bs)) (blocks-next (w .block) c rest r)
               ∙ ap (λ (x : List ℕ). w .finished ++ (x ++ joined (map blockBytes (blocks m rest)))) (block-bytes (w .block) (w .filled) (w .most))
               ∙ sym (append-assoc (w .finished) (blockHead size ++ w .block) (joined (map blockBytes (blocks m rest))));
-          long = long′;
           held = held-as (held-more out₀ _ m (held-more out₀ f (blockHead size′) (w .held) (t .1 ∙ sym z) o₁) q o₂) (append-assoc f (blockHead size′) m);
         }
 
--- what the walk leaves: the number of the line's bytes, the dots of its longest run, and the output
-pub record Done (width : ℕ) (row out₀ : List ℕ) (bytes longest : ℕ) (out : List ℕ) : Type 0 where
+-- what the walk leaves: the number of the line's bytes, and the output
+pub record Done (width : ℕ) (row out₀ : List ℕ) (bytes : ℕ) (out : List ℕ) : Type 0 where
   pub size : bytes ≡ length (rowBytes width row)
-  pub long : longest ≡ longestRun (runs width row)
   pub made : length (rowBytes width row) ≤ length out₀ → out ≡ rowBytes width row ++ drop (length (rowBytes width row)) out₀
 
 -- no run is left
-pub walked-done : {width : ℕ} {row out₀ out₁ out : List ℕ} {from head size longest : ℕ} → Held out₀ (blockHead 0) out₁
-    → Walked width row out₁ from head size longest out → width ≤ from → Done width row out₀ (head + 6 + size) longest out
-unfolding blocks joined longestRun
-walked-done {width} {row} {out₀} {out₁} {out} {from} {head} {size} {longest} first w h =
+pub walked-done : {width : ℕ} {row out₀ out₁ out : List ℕ} {from head size : ℕ} → Held out₀ (blockHead 0) out₁
+    → Walked width row out₁ from head size out → width ≤ from → Done width row out₀ (head + 6 + size) out
+unfolding blocks joined
+walked-done {width} {row} {out₀} {out₁} {out} {from} {head} {size} first w h =
     let d = dotAt row in
     let none = runs-none d from width h in
     let all : rowBytes width row ≡ w .finished ++ (blockHead size ++ w .block) =
@@ -223,6 +215,5 @@ walked-done {width} {row} {out₀} {out₁} {out} {from} {head} {size} {longest}
     let n : head + 6 + size ≡ length (rowBytes width row) = sym (ap length all ∙ simp length-append (omega (arith, w .place, w .filled))) in
     record {
       size = n;
-      long = sym (w .long ∙ omega (arith, ap longestRun none));
       made = held-before first (omega arith) (held-as (w .held) (sym all)) .made;
     }

@@ -2,13 +2,14 @@
 ghost use mathlib.Core.Path.{_≡_};
 ghost use mathlib.Core.Bool.{Bool, cond};
 ghost use mathlib.Core.List.{[], _∷_, _++_};
-ghost use Prim.Native.Nat.{_+_, _*_, _≤_, max};
+ghost use Prim.Native.Nat.{_+_, _*_, _≤_};
 ghost use lib.Dec.{leb};
 ghost use lib.ListN.{length, drop};
 ghost use Rattle.row.specs.Dots.{bit};
 ghost use Rattle.gdi_jobs.specs.Commands.{run};
-ghost use Rattle.gdi_jobs.specs.Rows.{runs, longestRun, commandBytes, rowBytes};
-ghost use Rattle.gdi_jobs.specs.Writers.{rowWriting, answerOf, outputAfter};
+ghost use Rattle.gdi_jobs.specs.Rows.{commandBytes, rowBytes};
+ghost use Rattle.gdi_jobs.specs.Writers.{fitsWidth, rowWriting, answerOf, outputAfter};
+ghost use Rattle.gdi_jobs.specs.Room.{rowRoom};
 ghost use Rattle.gdi_write.specs.Answers.{writtenAs};
 ghost use Rattle.gdi_rows.specs.Places.{putAt};
 use gdi_jobs::WIDEST;
@@ -86,29 +87,15 @@ fn block_for(b: Block, n: usize) -> Block
     }
 }
 
-// The larger of two numbers.
-fn larger(n: usize, m: usize) -> usize
-    ensures { λ r. ⌜ r ≡ max n m ⌝ }
-{
-    if n < m { m } else { n }
-}
-
-// How many bytes a line has, and the dots of its longest run.
-struct Size {
-    bytes: usize,
-    longest: usize,
-}
-
 // Goes over the runs of the row and puts the line's blocks at the beginning of the output, as far as it has room for them. Answers how many
-// bytes the line has, and the dots of its longest run.
-fn put_runs(row: &[u8], width: usize, output: &mut [u8]) -> Size
+// bytes the line has.
+fn put_runs(row: &[u8], width: usize, output: &mut [u8]) -> usize
     requires { ⌜ width ≤ 16383 ⌝ }
-    ensures { λ r. ⌜ (r .bytes ≡ length (rowBytes width (now (row .entry)))) × (r .longest ≡ longestRun (runs width (now (row .entry)))) ⌝ }
+    ensures { λ r. ⌜ r ≡ length (rowBytes width (now (row .entry))) ⌝ }
     ensures { λ _. ⌜ (length (rowBytes width (now (row .entry))) ≤ length (now (output .entry))
         → now (output .exit) ≡ rowBytes width (now (row .entry)) ++ drop (length (rowBytes width (now (row .entry)))) (now (output .entry))) ⌝ }
 {
     let mut block = Block { head: 0, size: 0 };
-    let mut longest = 0;
     let mut from = 0;
     put_block_head(0, 0, output);
     while from < width {
@@ -123,13 +110,41 @@ fn put_runs(row: &[u8], width: usize, output: &mut [u8]) -> Size
             block.head + 6 + block.size - n,
             output,
         );
-        longest = larger(longest, dots);
         from = end;
     }
-    Size {
-        bytes: block.head + 6 + block.size,
-        longest: longest,
+    block.head + 6 + block.size
+}
+
+// Whether the row has just the bytes of its width, and no spare bit is set.
+fn fits_width(row: &[u8], width: usize) -> bool
+    requires { ⌜ width ≤ 16383 ⌝ }
+    ensures { λ r. ⌜ r ≡ fitsWidth (now (row .entry)) width ⌝ }
+{
+    if row.len() != (width + 7) / 8 {
+        return false;
     }
+    row_runs::spare_clear(row, width)
+}
+
+// The bytes that a line of this width never needs more of.
+fn row_room(width: usize) -> usize
+    requires { ⌜ width ≤ 16383 ⌝ }
+    ensures { λ r. ⌜ r ≡ rowRoom width ⌝ }
+{
+    width + 6 * ((width + 254) / 255)
+}
+
+// Whether an output of `room` bytes is long enough for the line. Where it is for any line of this width, the row is not looked at.
+fn has_room(row: &[u8], width: usize, room: usize) -> bool
+    requires { ⌜ (1 ≤ width) × (width ≤ 16383) ⌝ }
+    ensures { λ r. ⌜ r ≡ leb (length (rowBytes width (now (row .entry)))) room ⌝ }
+{
+    if row_room(width) <= room {
+        return true;
+    }
+    // No block fits one byte, so that nothing is put there: the line is only measured.
+    let mut no_room = [0u8; 1];
+    put_runs(row, width, &mut no_room) <= room
 }
 
 // Puts a row of the given width, as a line, at the beginning of the output, and answers how many bytes the line has; the bytes of the output beyond
@@ -144,21 +159,11 @@ pub fn write_row(width: usize, row: &[u8], output: &mut [u8]) -> Written
     if width > WIDEST {
         return Written::Refused(27, 0);
     }
-    if row.len() != (width + 7) / 8 {
+    if !fits_width(row, width) {
         return Written::Refused(27, 0);
     }
-    if !row_runs::spare_clear(row, width) {
+    if !has_room(row, width, output.len()) {
         return Written::Refused(27, 0);
     }
-    // No block fits one byte, so that nothing is put there: the line is only measured.
-    let mut no_room = [0u8; 1];
-    let line = put_runs(row, width, &mut no_room);
-    if line.longest > WIDEST {
-        return Written::Refused(28, 0);
-    }
-    if output.len() < line.bytes {
-        return Written::Refused(27, 0);
-    }
-    put_runs(row, width, output);
-    Written::Bytes(line.bytes)
+    Written::Bytes(put_runs(row, width, output))
 }

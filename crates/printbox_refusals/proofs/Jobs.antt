@@ -1,20 +1,18 @@
 -- The refusals of a check of a job, of the line reader and of the writers. Assumes nothing.
 use mathlib.Core.Path.{_≡_, refl}
-use mathlib.Core.Bool.{Bool, true, false, not, cond}
+use mathlib.Core.Bool.{Bool, true, false, not, cond, _&&_}
 use mathlib.Core.List.{List, [], _∷_}
 use Prim.Native.Nat.{ℕ, zero, suc, _+_, _-_, _%_}
 use lib.Dec.{eqb, leb, ltb}
 use lib.ListN.{length, drop}
-use Rattle.row_runs.specs.Spare.{spareClear}
 use Rattle.gdi_jobs.specs.Commands.{Command, run, dotsOf, taken, broken, blackBit, withSecond, command}
 use Rattle.gdi_jobs.specs.Groups.{Group, cut, pageHead, wrongPageHead, block, pageEnd, documentEnd, unknown, group, headBytes, pageEndBytes, documentEndBytes, admitted, fields}
 use Rattle.gdi_jobs.specs.Pages.{Next, toBlock, toEnd, toCommand, fault, inGap, ofCommand, next}
 use Rattle.gdi_jobs.specs.Jobs.{State, between, inPage, Step, onward, done, stop, stepBetween, stepInPage, step, longest, JobAnswer, thenWalk, walk, walkHead, jobAnswer}
 use Rattle.gdi_jobs.specs.Lines.{Line, line, withCommand, thenLine, lineFrom, lineBytes, lineAt}
 use Rattle.gdi_jobs.specs.Lines as lines
-use Rattle.gdi_jobs.specs.Rows.{runs, longestRun, rowBytes}
-use Rattle.gdi_jobs.specs.Writers.{Writing, refuses, inRoom, headWriting, pageEndWriting, documentEndWriting, PageHead, pageHeadBytes, pageHeadWriting, rowWriting, answerOf}
-use Rattle.gdi_jobs.proofs.Rows.{no-run-too-long}
+use Rattle.gdi_jobs.specs.Rows.{rowBytes}
+use Rattle.gdi_jobs.specs.Writers.{Writing, inRoom, headWriting, pageEndWriting, documentEndWriting, PageHead, pageHeadBytes, pageHeadWriting, fitsWidth, rowWriting, answerOf}
 use Rattle.gdi_write.specs.Paper.{FillAnswer, fillAnswer}
 use Rattle.printbox_answers.specs.Numbers.{ofJob, ofLine, ofWriting, ofFill}
 use Rattle.printbox_refusals.specs.Refusals.{among, gives, jobRefusals, lineRefusals, pageHeadRefusals, otherRefusals}
@@ -174,20 +172,7 @@ gdi-write-page-head h room =
 
 pub gdi-write-row : (width : ℕ) (row : List ℕ) (room : ℕ) → WriteIn otherRefusals (rowWriting width row room)
 unfolding rowWriting gives among
-gdi-write-row width row room = go (admitted width) refl
-  where
-    W : Writing → Type 0
-    W = WriteIn otherRefusals
-
-    rest : Writing
-    rest = cond (ltb 16383 (longestRun (runs width row))) (refuses 28 0) (inRoom (rowBytes width row) room)
-
-    go : (t : Bool) → admitted width ≡ t
-        → W (cond (not t) (refuses 27 0) (cond (not (eqb (length row) (lineBytes width))) (refuses 27 0) (cond (not (spareClear row width)) (refuses 27 0) rest)))
-    go false e = refl
-    go true e =
-        either W (not (eqb (length row) (lineBytes width))) refl
-        (either W (not (spareClear row width)) refl (rw (no-run-too-long width row e) (put-in otherRefusals (rowBytes width row) room refl)))
+gdi-write-row width row room = either (WriteIn otherRefusals) (admitted width && fitsWidth row width) (put-in otherRefusals (rowBytes width row) room refl) refl
 
 pub gdi-linefill : (width : ℕ) → gives otherRefusals (ofFill (fillAnswer width)) ≡ true
 unfolding fillAnswer gives among

@@ -43,7 +43,7 @@ lineRefusals = 1 ∷ 23 ∷ 24 ∷ 25 ∷ 27 ∷ []
 abbrev pub pageHeadRefusals : List ℕ
 pageHeadRefusals = 22 ∷ 27 ∷ []
 
--- of the other writers, and of a linefill: 28 is never given
+-- of the other writers, and of a linefill
 abbrev pub otherRefusals : List ℕ
 otherRefusals = 27 ∷ []
 

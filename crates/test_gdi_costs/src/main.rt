@@ -1,6 +1,6 @@
 // Checks one job, reads the lines of one page, or writes one row, and prints the answer, so that the instructions can be counted. The standard input
-// is two words, high byte first: 1, 2 or 3 for one of these, and the width; then the job, the page from after its head on, or the row. It has at most
-// 131,072 bytes. Of another input nothing is printed.
+// is two words, high byte first: 1, 2 or 3 for one of these, and the width; then the job, the page from after its head on, or the row. With 4 a row is
+// written into an output of as many bytes as a third word says. The input has at most 131,072 bytes. Of another one nothing is printed.
 use film_words::word;
 use gdi_check::Checked;
 use gdi_check::check_job;
@@ -70,6 +70,11 @@ fn run(input: &[u8], row: &mut [u8], output: &mut [u8]) {
         }
     } else if kind == 3 {
         write(width, &input[4..], output);
+    } else if kind == 4 {
+        let room = word(input, 2) as usize;
+        if input.len() >= 6 && room <= output.len() {
+            write(width, &input[6..], &mut output[0..room]);
+        }
     }
 }
 

@@ -123,12 +123,17 @@ pub fn row(rng: &mut Rng) -> Row {
         }
         _ => (),
     }
+    // The bytes of the width's longest line, of which every run is one dot.
+    let longest = width + 6 * width.div_ceil(255);
     let length = match rng.below(20) {
         0 => exact - 1,
         1 => rng.index(exact),
         2 => 0,
         3..=7 => exact + 1 + rng.index(12),
         8 => exact + rng.index(100),
+        9 => longest,
+        10 => longest - 1,
+        11 => longest + rng.index(100),
         _ => exact,
     };
     Row {

@@ -5,8 +5,6 @@ use crate::{answer, refuse, Answer, Refusal};
 
 /// "A command that would take a block's size over 255 starts the next."
 const FULLEST_BLOCK: usize = 255;
-/// "A run over 16,383 dots" has no command.
-const LONGEST_RUN: usize = 16_383;
 
 /// Puts the bytes at the output's beginning, or refuses an output that is shorter than they are.
 /// "Each writer answers the bytes written; output beyond them stays."
@@ -94,21 +92,17 @@ fn block(bytes: &[u8]) -> Vec<u8> {
 }
 
 fn write_row(width: usize, row: &[u8], output: &mut [u8]) -> Result<(u64, u64), Refusal> {
-    // 27 for width and row, then 28, then 27 for output.
+    // 27 for width and row, then 27 for output.
     if !(1..=WIDEST).contains(&width) || row.len() != width.div_ceil(8) {
         return refuse(27, 0);
     }
     if (width..row.len() * 8).any(|f| dot(row, f)) {
         return refuse(27, 0);
     }
-    let runs = runs(row, width);
-    if runs.iter().any(|&(_, length)| length > LONGEST_RUN) {
-        return refuse(28, 0);
-    }
     let mut line = Vec::new();
     // "A line starts a block."
     let mut filling = Vec::new();
-    for (black, length) in runs {
+    for (black, length) in runs(row, width) {
         let command = command(black, length);
         if filling.len() + command.len() > FULLEST_BLOCK {
             line.extend(block(&filling));

@@ -11,6 +11,7 @@ pub mod guarded;
 pub mod header;
 pub mod raster;
 pub mod rounds;
+pub mod rows;
 pub mod strip;
 pub mod strip_cases;
 pub mod table;

@@ -5,7 +5,7 @@ use crate::failure::{Failure, Outcome, Status};
 use crate::output::to_standard_output;
 
 /// What each refusal means, in a sentence.
-pub const MEANINGS: [(u8, &str); 26] = [
+pub const MEANINGS: [(u8, &str); 25] = [
     (1, "The sheet or the load has an odd number of bytes, or the sheet, the load or the job has \
          more than 16,777,216; the place is 0."),
     (2, "The file is no sheet: it has fewer than 12 words or does not start with the password AAAA \
@@ -42,8 +42,6 @@ pub const MEANINGS: [(u8, &str); 26] = [
     (26, "Bytes stand after the document end; the place is the first of them."),
     (27, "A width is outside 1 to 16,383, a row has another length than its width asks for or a \
           spare bit set, or an output is too short; the place is 0."),
-    (28, "A row to be written has a run over 16,383 dots, which no row of an admitted width has; \
-          the place is 0."),
     (31, "A packet's checksum is not the sum of its header and body; the place is 0."),
     (32, "A packet's command is none of 01 (Initialize), 02 (Print), 04 (Data) and 0F (Inquiry) \
           hex; the place is 0."),
@@ -66,7 +64,7 @@ pub fn run(arguments: &Arguments) -> Outcome<Status> {
     let Some((_, sentence)) = meaning else {
         let given = shown(given);
         return Err(Failure::trouble(format!(
-            "no refusal has the number {given}: they are 1 to 12, 21 to 28 and 31 to 36"
+            "no refusal has the number {given}: they are 1 to 12, 21 to 27 and 31 to 36"
         )));
     };
     to_standard_output(|output| writeln!(output, "{sentence}"))?;

@@ -9,10 +9,10 @@ use Rattle.gdi_rows.proofs.put_runs.Statement.{statement}
 use Rattle.gdi_rows.proofs.put_runs.Tie as tie
 
 abbrev Inv-loop : tie.InvT-loop
-Inv-loop row width output₀ block₀ longest₀ from₀ output block longest from = Walked width row output₀ from (block .head) (block .size) longest output
+Inv-loop row width output₀ block₀ from₀ output block from = Walked width row output₀ from (block .head) (block .size) output
 
 abbrev μ-loop : tie.MeasureT-loop
-μ-loop row width output₀ block₀ longest₀ from₀ output block longest from = width - from
+μ-loop row width output₀ block₀ from₀ output block from = width - from
 
 put-block-head-requires : tie.Need-put-block-head-requires Inv-loop μ-loop
 put-block-head-requires c κs = omega arith
@@ -64,27 +64,24 @@ sub-put-command c = omega (arith, takes (c .before .before .before .before .befo
 put-command-requires : tie.Need-put-command-requires Inv-loop μ-loop
 put-command-requires c κs = omega (arith, ends (c .before .before .before .before .before .before .before .before .before .before))
 
-larger-requires : tie.Need-larger-requires Inv-loop μ-loop
-larger-requires c κs = tt
-
 loop-less : tie.Need-loop-less Inv-loop μ-loop
-loop-less c = omega (arith, ends (c .before .before .before .before .before .before .before .before .before .before .before .before .before .before))
+loop-less c = omega (arith, ends (c .before .before .before .before .before .before .before .before .before .before .before .before .before))
 
 loop-again : tie.Need-loop-again Inv-loop μ-loop
 loop-again c =
-    let p = c .before .before .before in
+    let p = c .before .before in
     let d = p .before .before .before .before in
     let h = d .before .before .before in
     let b = h .before .before in
     let n = b .before in
     let e = n .before in
-    walked-next (e .before .before .loop .inv) (e .before .loop-test .taken) (e .run-end .ensures) (d .dot .ensures) (n .command-size .ensures _) (b .block-for .ensures .0) (b .block-for .ensures .1) (c .larger .ensures) refl (h .put-block-head2 .ensures) (p .put-command .ensures)
+    walked-next (e .before .before .loop .inv) (e .before .loop-test .taken) (e .run-end .ensures) (d .dot .ensures) (n .command-size .ensures _) (b .block-for .ensures .0) (b .block-for .ensures .1) refl (h .put-block-head2 .ensures) (p .put-command .ensures)
 
-add-t22 : tie.Need-add-t22 Inv-loop μ-loop
-add-t22 c = omega (arith, c .before .before .loop .inv .few, c .before .before .loop .inv .within)
+add-result : tie.Need-add-result Inv-loop μ-loop
+add-result c = omega (arith, c .before .before .loop .inv .few, c .before .before .loop .inv .within)
 
-add-t23 : tie.Need-add-t23 Inv-loop μ-loop
-add-t23 c = omega (arith, c .before .before .before .loop .inv .few, c .before .before .before .loop .inv .within)
+add-result-2 : tie.Need-add-result-2 Inv-loop μ-loop
+add-result-2 c = omega (arith, c .before .before .before .loop .inv .few, c .before .before .before .loop .inv .within)
 
 same-length : tie.Need-same-length Inv-loop μ-loop
 same-length c =
@@ -95,7 +92,7 @@ returns : tie.Need-returns Inv-loop μ-loop
 returns c =
     let l = c .before .before .before in
     let d = walked-done (head-held (l .before .before .before .put-block-head .ensures)) (l .loop .inv) (c .before .before .loop-test .left) in
-    ((d .size, d .long), d .made)
+    (d .size, d .made)
 
 pub put-runs-spec : {M : Type 1} → statement M
 put-runs-spec =
@@ -115,10 +112,9 @@ put-runs-spec =
     add-put-command-2
     sub-put-command
     put-command-requires
-    larger-requires
     loop-less
     loop-again
-    add-t22
-    add-t23
+    add-result
+    add-result-2
     same-length
     returns)
