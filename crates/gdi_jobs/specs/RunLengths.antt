@@ -14,7 +14,7 @@ use Rattle.gdi_jobs.specs.ReadingBack.{All}
 abbrev pub mostDots : ℕ
 mostDots = 16383
 
--- For every width that the row writer takes, 1 to 16,383, and every row: each longest run of a colour has at most as many dots as a command tells.
+-- For every width that the row writer takes, 1 to 16,383, and every row: each longest run of a colour has at most 16,383 dots, so a command tells it.
 unfoldable pub NoRunTooLong : Type 0
 NoRunTooLong = (width : ℕ) (row : List ℕ) → admitted width ≡ true → All (λ (c : Command). dotsOf c ≤ mostDots) (runs width row)
 

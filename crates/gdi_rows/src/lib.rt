@@ -15,6 +15,9 @@ ghost use Rattle.gdi_rows.specs.Places.{putAt};
 use gdi_jobs::WIDEST;
 use gdi_write::Written;
 
+// The only refusal of the row writer: of the width, of the row, and then of the output.
+const REFUSED: Written = Written::Refused(27, 0);
+
 // Puts the bytes at place `at` of the output, where it has room for them.
 fn put_at(bytes: &[u8], at: usize, output: &mut [u8])
     ensures { λ _. ⌜ now (output .exit) ≡ putAt (now (bytes .entry)) at (now (output .entry)) ⌝ }
@@ -148,22 +151,22 @@ fn has_room(row: &[u8], width: usize, room: usize) -> bool
 }
 
 // Puts a row of the given width, as a line, at the beginning of the output, and answers how many bytes the line has; the bytes of the output beyond
-// them stay. A refusal has a number and place 0, and then the output stays whole.
+// them stay. After a refusal the output is whole as it was.
 pub fn write_row(width: usize, row: &[u8], output: &mut [u8]) -> Written
     ensures { λ r. ⌜ writtenAs r ≡ answerOf (rowWriting width (now (row .entry)) (length (now (output .entry)))) ⌝ }
     ensures { λ _. ⌜ now (output .exit) ≡ outputAfter (rowWriting width (now (row .entry)) (length (now (output .entry)))) (now (output .entry)) ⌝ }
 {
     if width < 1 {
-        return Written::Refused(27, 0);
+        return REFUSED;
     }
     if width > WIDEST {
-        return Written::Refused(27, 0);
+        return REFUSED;
     }
     if !fits_width(row, width) {
-        return Written::Refused(27, 0);
+        return REFUSED;
     }
     if !has_room(row, width, output.len()) {
-        return Written::Refused(27, 0);
+        return REFUSED;
     }
     Written::Bytes(put_runs(row, width, output))
 }

@@ -9,13 +9,13 @@ add-if1 : tie.Need-add-if1
 add-if1 c = omega arith
 
 returns : tie.Need-returns
-returns c = length-no _ _ (c .if1 .taken)
+returns c = length-no _ _ (λ e. c .if1 .taken (omega (arith, e)))
 
 spare-clear-requires : tie.Need-spare-clear-requires
 spare-clear-requires c κs = tt
 
 returns-2 : tie.Need-returns-2
-returns-2 c = c .spare-clear .ensures ∙ length-yes _ _ (c .before .if1 .left)
+returns-2 c = c .spare-clear .ensures ∙ length-yes _ _ (omega (arith, c .before .if1 .left))
 
 pub fits-width-spec : {M : Type 1} → statement M
 fits-width-spec =
