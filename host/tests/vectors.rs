@@ -3,7 +3,7 @@
 
 mod common;
 
-use common::cases::{case, Case, FILM, GDI, MODEL};
+use common::cases::{case, Case, FILM, GDI, MODEL, P1};
 use common::fenced::{FencedEnd, FencedStart};
 use std::collections::BTreeMap;
 
@@ -89,6 +89,12 @@ fn model() {
         ("gdi_write_page_head", 31),
     ];
     run("model.txt", MODEL, &counts);
+}
+
+#[test]
+fn p1() {
+    let counts = [("film_check", 122), ("film_draw", 600)];
+    run("p1.txt", P1, &counts);
 }
 
 /// A line that is damaged is a fault and never passes for a case.

@@ -3,14 +3,16 @@ use mathlib.Core.Path.{_≡_}
 use mathlib.Core.List.{List, [], _∷_, _++_}
 use Prim.Native.Nat.{ℕ}
 use Rattle.refusal.specs.Answers.{Answer, given, refused, andThen}
+use Rattle.refusal.specs.Tables.{first}
 use Rattle.film_words.specs.Words.{words, bytesOf}
 use Rattle.film_words.specs.Load.{loadCount, loadWords}
 use Rattle.film_words.specs.Arrays.{arrayExtent}
 use Rattle.film_words.specs.Groups.{linesExtent, groupExtent}
-use Rattle.film_commands.specs.Commands.{command, priorityFrom, tileFrom, rectangleFrom, trapezoidFrom, runsFrom, loadRunsFrom, samplesFrom, loadSamplesFrom}
+use Rattle.film_commands.specs.Refusals.{commandTable}
+use Rattle.film_commands.specs.Commands.{command, decoded}
 use Rattle.film_commands.specs.Band.{readFrom, readBand, bandTest}
 use Rattle.film_herald.specs.Herald.{pageCount, bandCount}
-use Rattle.film_herald.specs.Refusals.{first, lengthTable, passwordTable, sizeTable, loadTable, pageTable, heraldTable, heraldTest}
+use Rattle.film_herald.specs.Refusals.{lengthTable, passwordTable, sizeTable, loadTable, pageTable, heraldTable, heraldTest}
 use Rattle.film_layout.specs.Layout.{Layout, pageHead, band, ends, bandsThen, pagesFrom, layoutOf}
 
 -- the number of pages, or a refusal
@@ -61,9 +63,12 @@ pub record CheckCases : Type 0 where
   pub number-6-band : oneBand (2 ∷ 99 ∷ []) ≡ refused 6 13
   pub number-6-command : oneBand (3 ∷ 2 ∷ 5 ∷ 1 ∷ []) ≡ refused 6 15
   pub number-7 : oneBand (1 ∷ 11 ∷ []) ≡ refused 7 14
-  pub number-8 : oneBand (4 ∷ 4 ∷ 2 ∷ 0 ∷ 0 ∷ []) ≡ refused 8 14
+  pub number-8-high : oneBand (3 ∷ 1 ∷ 0 ∷ 256 ∷ []) ≡ refused 8 16
+  pub number-8-falls : oneBand (6 ∷ 1 ∷ 1 ∷ 0 ∷ 1 ∷ 0 ∷ 0 ∷ []) ≡ refused 8 18
   pub number-9 : oneBand (4 ∷ 4 ∷ 0 ∷ 0 ∷ 0 ∷ []) ≡ refused 9 14
   pub number-10 : oneBand (1 ∷ 2 ∷ 7 ∷ []) ≡ refused 10 15
+  pub number-13 : oneBand (4 ∷ 4 ∷ 2 ∷ 0 ∷ 0 ∷ []) ≡ refused 13 15
+  pub number-14 : oneBand (7 ∷ 6 ∷ 0 ∷ 1 ∷ 0 ∷ 2 ∷ 0 ∷ 2 ∷ []) ≡ refused 14 16
   -- page 0's last band has a fault, and page 1 is missing: the first fault met is given
   pub first-fault : checked (start 4 4 ++ (2 ∷ 1 ∷ 1 ∷ 99 ∷ [])) (0 ∷ 0 ∷ []) ≡ refused 7 14
   pub two-pages : checked (start 4 2 ++ (2 ∷ 2 ∷ 0 ∷ 1 ∷ 2 ∷ 2 ∷ 1 ∷ 3 ∷ 0 ∷ [])) (0 ∷ 0 ∷ []) ≡ given 2
@@ -72,5 +77,5 @@ pub record CheckCases : Type 0 where
   pub past-load : checked (start 4 4 ++ (1 ∷ 1 ∷ 4 ∷ 8 ∷ 1 ∷ 0 ∷ 2 ∷ [])) (3 ∷ 0 ∷ 1 ∷ 4 ∷ 0x8002 ∷ []) ≡ refused 9 14
 
 pub check-cases : CheckCases
-unfolding checkAnswer checkLayout heraldTest first lengthTable passwordTable sizeTable loadTable pageTable heraldTable words bytesOf loadCount loadWords bandCount bandsThen pagesFrom readBand readFrom command priorityFrom tileFrom rectangleFrom trapezoidFrom runsFrom loadRunsFrom samplesFrom loadSamplesFrom arrayExtent linesExtent groupExtent
+unfolding checkAnswer checkLayout heraldTest first lengthTable passwordTable sizeTable loadTable pageTable heraldTable words bytesOf loadCount loadWords bandCount bandsThen pagesFrom readBand readFrom command commandTable decoded arrayExtent linesExtent groupExtent
 check-cases = search

@@ -4,9 +4,11 @@ use mathlib.Core.Bool.{Bool, true, false}
 use mathlib.Core.List.{List, [], _∷_, _++_}
 use Prim.Native.Nat.{ℕ, zero, suc, _+_}
 use Rattle.refusal.specs.Answers.{given, refused, countedFrom, Verdict, fine}
+use Rattle.refusal.specs.Tables.{first}
 use Rattle.film_words.specs.Arrays.{arrayExtent}
 use Rattle.film_words.specs.Groups.{linesExtent, groupExtent}
-use Rattle.film_commands.specs.Commands.{Mask, rectangle, Command, priority, ink, clear, setTile, paint, Whole, Taken, command, priorityFrom, tileFrom, rectangleFrom, trapezoidFrom, runsFrom, loadRunsFrom, samplesFrom, loadSamplesFrom}
+use Rattle.film_commands.specs.Refusals.{commandTable}
+use Rattle.film_commands.specs.Commands.{Mask, rectangle, Command, priority, ink, clear, setTile, paint, Taken, command, decoded}
 
 -- a command and its place, counted from the band's first command
 pub record Item : Type 0 where
@@ -110,7 +112,7 @@ pub record BandCases : Type 0 where
   -- a refusal, and the commands before it
   pub falling-priority :
       readBand [] (2 ∷ 1 ∷ 1 ∷ 0 ∷ 3 ∷ 1 ∷ 0 ∷ 0 ∷ [])
-      ≡ record { items = item 0 ink ∷ item 1 (priority 1) ∷ item 4 clear ∷ []; ends = refused 8 5 }
+      ≡ record { items = item 0 ink ∷ item 1 (priority 1) ∷ item 4 clear ∷ []; ends = refused 8 6 }
   pub fault-in-sheet : bandTest [] 14 (2 ∷ 99 ∷ 6 ∷ []) ≡ refused 7 15
   pub no-fault : bandTest [] 14 (2 ∷ 3 ∷ []) ≡ fine
   pub first-fault : readBand [] (2 ∷ 99 ∷ 6 ∷ []) ≡ record { items = item 0 ink ∷ []; ends = refused 7 1 }
@@ -128,5 +130,5 @@ pub record BandCases : Type 0 where
       ≡ stroke 15 0 (solid false) (rectangle 1 2 3 4) ∷ stroke 20 0 (solid false) (rectangle 5 6 7 8) ∷ []
 
 pub band-cases : BandCases
-unfolding readBand readFrom command priorityFrom tileFrom rectangleFrom trapezoidFrom runsFrom loadRunsFrom samplesFrom loadSamplesFrom arrayExtent linesExtent groupExtent strokes strokesFrom
+unfolding readBand readFrom first command commandTable decoded arrayExtent linesExtent groupExtent strokes strokesFrom
 band-cases = search

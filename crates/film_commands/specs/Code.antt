@@ -85,17 +85,17 @@ located p nowhere = nothing
 located p (inBand offset n) = ofSheet (p + offset) (p + offset + n)
 located p (inLoad address n) = ofLoad (2 + address) (2 + address + n)
 
-abbrev pub whole : Command → Named → (next : ℕ) → Answer Placed
-whole c names next = given (record { command = c; names = names; next = next })
+abbrev pub wholeAt : Command → Named → (next : ℕ) → Answer Placed
+wholeAt c names next = given (record { command = c; names = names; next = next })
 
 -- what was read where the code word has place p
 abbrev pub placed : ℕ → Taken → Answer Placed
-placed p (given w) = whole (w .command) (located p (w .source)) (p + suc (w .more))
+placed p (given w) = wholeAt (w .command) (located p (w .source)) (p + suc (w .more))
 placed p (refused number offset) = refused number (p + offset)
 
 -- what the reader's answer says
 abbrev pub readAs : List ℕ → List ℕ → code-read.Read → Answer Placed
-readAs sheet load (Whole c next) = whole (commandOf sheet load c) (named c) next
+readAs sheet load (Whole c next) = wholeAt (commandOf sheet load c) (named c) next
 readAs sheet load (Refused r) = refusedAs r
 
 -- ---- colours
@@ -133,13 +133,13 @@ abbrev loadSource : code-source.Source
 loadSource = record { load = true; from = 0; to = 3 }
 
 pub record CodeCases : Type 0 where
-  pub next-place : placed 14 (taken ink nowhere 0) ≡ whole ink nothing 15
-  pub after-arguments : placed 14 (taken (priority 5) nowhere 2) ≡ whole (priority 5) nothing 17
-  pub place-in-sheet : placed 14 (taken ink (inBand 2 3) 0) ≡ whole ink (ofSheet 16 19) 15
-  pub place-in-load : placed 14 (taken ink (inLoad 6 3) 0) ≡ whole ink (ofLoad 8 11) 15
+  pub next-place : placed 14 (taken ink nowhere 0) ≡ wholeAt ink nothing 15
+  pub after-arguments : placed 14 (taken (priority 5) nowhere 2) ≡ wholeAt (priority 5) nothing 17
+  pub place-in-sheet : placed 14 (taken ink (inBand 2 3) 0) ≡ wholeAt ink (ofSheet 16 19) 15
+  pub place-in-load : placed 14 (taken ink (inLoad 6 3) 0) ≡ wholeAt ink (ofLoad 8 11) 15
   pub at-code : placed 14 (refused 7 0) ≡ refused 7 14
   pub offset-counted : placed 14 (refused 8 3) ≡ refused 8 17
-  pub answer-whole : readAs [] [] (Whole Clear 9) ≡ whole clear nothing 9
+  pub answer-whole : readAs [] [] (Whole Clear 9) ≡ wholeAt clear nothing 9
   pub answer-refused : readAs [] [] (Refused (record { number = 6; place = 9 })) ≡ refused 6 9
   pub tile-named : named (Tile true 8 14) ≡ ofLoad 8 14
   pub runs-named : named (Paint (Runs 0 source)) ≡ ofSheet 0 3

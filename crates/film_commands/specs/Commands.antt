@@ -1,15 +1,17 @@
--- The commands of a band, one by one: what each is, and how it is read from its words.
+-- The commands of a band, one by one: what each is, and how it is read from its words. What is refused is in Refusals.
 use mathlib.Core.Path.{_≡_}
-use mathlib.Core.Bool.{Bool, true, false, cond, _||_}
+use mathlib.Core.Bool.{Bool, true, false, cond}
 use mathlib.Core.List.{List, [], _∷_}
 use mathlib.Core.Option.{Option, none, some}
 use Prim.Native.Nat.{ℕ, _+_}
-use lib.Dec.{leb, ltb, eqb}
-use lib.ListN.{length, take, drop}
-use Rattle.refusal.specs.Answers.{Answer, given, refused}
+use lib.Dec.{eqb}
+use lib.ListN.{take, drop}
+use Rattle.refusal.specs.Answers.{Answer, given, refused, andThen}
+use Rattle.refusal.specs.Tables.{first}
 use Rattle.film_words.specs.Words.{at, longAt}
 use Rattle.film_words.specs.Arrays.{arrayExtent}
 use Rattle.film_words.specs.Groups.{linesExtent, groupExtent}
+use Rattle.film_commands.specs.Refusals.{commandTable}
 
 -- ---- what a command is
 
@@ -40,93 +42,87 @@ pub record Whole : Type 0 where
   pub source : Source
   pub more : ℕ
 
+abbrev pub whole : Command → Source → (more : ℕ) → Whole
+whole c src n = record { command = c; source = src; more = n }
+
 -- it is taken whole, or refused: the place of a refusal is counted from the code word
 abbrev pub Taken : Type 0
 Taken = Answer Whole
 
 abbrev pub taken : Command → Source → (more : ℕ) → Taken
-taken c src n = given (record { command = c; source = src; more = n })
+taken c src n = given (whole c src n)
 
--- ---- how a command is read from the words after its code word, `args`, and the load's words after its count, `load`
+-- ---- what a command is, where nothing is refused, by the words after its code word, `args`, and the load's words after its count, `load`
 
--- a refusal, so many words after the code word
-abbrev pub refuseIf : Bool → (number offset : ℕ) → Taken → Taken
-refuseIf b number offset t = cond b (refused number offset) t
+-- the words of an array or a group that is all there
+abbrev pub takenWords : Option ℕ → ℕ
+takenWords none = 0
+takenWords (some n) = n
 
--- 6 where fewer than the n words that are needed follow the code word
-abbrev pub needs : ℕ → List ℕ → Taken → Taken
-needs n args t = cond (leb n (length args)) t (refused 6 0)
+-- 1: long
+abbrev pub priorityFrom : List ℕ → Whole
+priorityFrom args = whole (priority (longAt args 0)) nowhere 2
 
--- goes on with the n words of an array or group, or refuses where it runs past the end
-abbrev pub extended : ℕ → Option ℕ → (ℕ → Taken) → Taken
-extended number none k = refused number 0
-extended number (some n) k = k n
-
--- 1: a long, high word at most 255; it may not fall below `least`, the band's priority so far
-unfoldable pub priorityFrom : ℕ → List ℕ → Taken
-priorityFrom least args =
-    needs 2 args (refuseIf (ltb 255 (at args 1)) 8 0 (refuseIf (ltb (longAt args 0) least) 8 0 (taken (priority (longAt args 0)) nowhere 2)))
-
--- whether a side of a tile is 0
-abbrev pub emptyTile : List ℕ → Bool
-emptyTile tile = eqb (at tile 3) 0 || eqb (at tile 4) 0
-
--- 4: 0 opaque or 1 transparent, long address. The tile may not run past the load, and no side of it is 0
-unfoldable pub tileFrom : List ℕ → List ℕ → Taken
+-- 4: 0 opaque or 1 transparent, long address
+abbrev pub tileFrom : List ℕ → List ℕ → Whole
 tileFrom load args =
-    let words = drop (longAt args 1) load in
-    needs 3 args (refuseIf (ltb 1 (at args 0)) 8 0
-    (extended 9 (arrayExtent (drop 3 words)) (λ n. refuseIf (emptyTile words) 9 0
-    (taken (setTile (eqb (at args 0) 1) (longAt args 1) (take (3 + n) words)) (inLoad (longAt args 1) (3 + n)) 3))))
+    let tile = drop (longAt args 1) load in
+    let n = 3 + takenWords (arrayExtent (drop 3 tile)) in
+    whole (setTile (eqb (at args 0) 1) (longAt args 1) (take n tile)) (inLoad (longAt args 1) n) 3
 
 -- 5: sMin, sSize, fMin, fSize
-unfoldable pub rectangleFrom : List ℕ → Taken
-rectangleFrom args = needs 4 args (taken (paint (rectangle (at args 0) (at args 1) (at args 2) (at args 3))) nowhere 4)
+abbrev pub rectangleFrom : List ℕ → Whole
+rectangleFrom args = whole (paint (rectangle (at args 0) (at args 1) (at args 2) (at args 3))) nowhere 4
 
--- 6: sMin, sSize, fMin, fSize, fMinLast, fSizeLast; sSize 1 is refused
-unfoldable pub trapezoidFrom : List ℕ → Taken
-trapezoidFrom args =
-    needs 6 args (refuseIf (eqb (at args 1) 1) 8 0
-    (taken (paint (trapezoid (at args 0) (at args 1) (at args 2) (at args 3) (at args 4) (at args 5))) nowhere 6))
+-- 6: sMin, sSize, fMin, fSize, fMinLast, fSizeLast
+abbrev pub trapezoidFrom : List ℕ → Whole
+trapezoidFrom args = whole (paint (trapezoid (at args 0) (at args 1) (at args 2) (at args 3) (at args 4) (at args 5))) nowhere 6
 
 -- 7: sMin, run group
-unfoldable pub runsFrom : List ℕ → Taken
+abbrev pub runsFrom : List ℕ → Whole
 runsFrom args =
     let group = drop 1 args in
-    needs 1 args (extended 6 (groupExtent group) (λ n. taken (paint (runs (at args 0) (take n group))) (inBand 2 n) (1 + n)))
+    let n = takenWords (groupExtent group) in
+    whole (paint (runs (at args 0) (take n group))) (inBand 2 n) (1 + n)
 
 -- 8: long address, sMin
-unfoldable pub loadRunsFrom : List ℕ → List ℕ → Taken
+abbrev pub loadRunsFrom : List ℕ → List ℕ → Whole
 loadRunsFrom load args =
     let group = drop (longAt args 0) load in
-    needs 3 args (extended 9 (groupExtent group) (λ n. taken (paint (runs (at args 2) (take n group))) (inLoad (longAt args 0) n) 3))
+    let n = takenWords (groupExtent group) in
+    whole (paint (runs (at args 2) (take n group))) (inLoad (longAt args 0) n) 3
 
 -- 9: sMin, fMin, sample array
-unfoldable pub samplesFrom : List ℕ → Taken
+abbrev pub samplesFrom : List ℕ → Whole
 samplesFrom args =
     let array = drop 2 args in
-    needs 2 args (extended 6 (arrayExtent array) (λ n. taken (paint (samples (at args 0) (at args 1) (take n array))) (inBand 3 n) (2 + n)))
+    let n = takenWords (arrayExtent array) in
+    whole (paint (samples (at args 0) (at args 1) (take n array))) (inBand 3 n) (2 + n)
 
 -- 10: long address, sMin, fMin
-unfoldable pub loadSamplesFrom : List ℕ → List ℕ → Taken
+abbrev pub loadSamplesFrom : List ℕ → List ℕ → Whole
 loadSamplesFrom load args =
     let array = drop (longAt args 0) load in
-    needs 4 args (extended 9 (arrayExtent array) (λ n. taken (paint (samples (at args 2) (at args 3) (take n array))) (inLoad (longAt args 0) n) 4))
+    let n = takenWords (arrayExtent array) in
+    whole (paint (samples (at args 2) (at args 3) (take n array))) (inLoad (longAt args 0) n) 4
 
--- by its code word; in one command 7, 6, 8, 9
-unfoldable pub command : List ℕ → ℕ → ℕ → List ℕ → Taken
-command load least code args =
-    cond (eqb code 1) (priorityFrom least args)
-    (cond (eqb code 2) (taken ink nowhere 0)
-    (cond (eqb code 3) (taken clear nowhere 0)
+-- by its code word, one of 1 to 10
+unfoldable pub decoded : (load : List ℕ) (code : ℕ) (args : List ℕ) → Whole
+decoded load code args =
+    cond (eqb code 1) (priorityFrom args)
+    (cond (eqb code 2) (whole ink nowhere 0)
+    (cond (eqb code 3) (whole clear nowhere 0)
     (cond (eqb code 4) (tileFrom load args)
     (cond (eqb code 5) (rectangleFrom args)
     (cond (eqb code 6) (trapezoidFrom args)
     (cond (eqb code 7) (runsFrom args)
     (cond (eqb code 8) (loadRunsFrom load args)
     (cond (eqb code 9) (samplesFrom args)
-    (cond (eqb code 10) (loadSamplesFrom load args)
-    (refused 7 0))))))))))
+    (loadSamplesFrom load args)))))))))
+
+-- a command is refused by the table, or taken whole
+unfoldable pub command : (load : List ℕ) (least code : ℕ) (args : List ℕ) → Taken
+command load least code args = andThen (first (commandTable load least code args)) (λ u. given (decoded load code args))
 
 -- the command at the beginning of the words of a band; 6 where there is no word
 unfoldable pub commandIn : List ℕ → ℕ → List ℕ → Taken
@@ -145,15 +141,19 @@ exampleTile = 1 ∷ 2 ∷ 3 ∷ 1 ∷ 4 ∷ 0xA000 ∷ []
 pub record CommandCases : Type 0 where
   pub priority-equal : commandIn [] 5 (1 ∷ 5 ∷ 0 ∷ 99 ∷ []) ≡ taken (priority 5) nowhere 2
   pub priority-low-word-first : commandIn [] 0 (1 ∷ 256 ∷ 255 ∷ []) ≡ taken (priority 0x00FF0100) nowhere 2
-  pub priority-high : commandIn [] 0 (1 ∷ 0 ∷ 256 ∷ []) ≡ refused 8 0
-  pub priority-falls : commandIn [] 5 (1 ∷ 4 ∷ 0 ∷ []) ≡ refused 8 0
+  pub priority-high : commandIn [] 0 (1 ∷ 0 ∷ 256 ∷ []) ≡ refused 8 2
+  pub priority-falls : commandIn [] 5 (1 ∷ 4 ∷ 0 ∷ []) ≡ refused 8 1
+  -- in the high word alone, and where `least` is no priority
+  pub priority-high-falls : commandIn [] 0x20000 (1 ∷ 65535 ∷ 1 ∷ []) ≡ refused 8 1
+  pub priority-high-first : commandIn [] 0xFFFFFFFF (1 ∷ 0 ∷ 256 ∷ []) ≡ refused 8 2
   pub priority-cut : commandIn [] 0 (1 ∷ 5 ∷ []) ≡ refused 6 0
   pub ink-alone : commandIn [] 0 (2 ∷ []) ≡ taken ink nowhere 0
   pub clear-alone : commandIn [] 0 (3 ∷ []) ≡ taken clear nowhere 0
   pub tile-opaque : commandIn exampleLoad 0 (4 ∷ 0 ∷ 0 ∷ 0 ∷ []) ≡ taken (setTile false 0 exampleTile) (inLoad 0 6) 3
   pub tile-transparent : commandIn exampleLoad 0 (4 ∷ 1 ∷ 0 ∷ 0 ∷ []) ≡ taken (setTile true 0 exampleTile) (inLoad 0 6) 3
   pub tile-cut-before-mode : commandIn exampleLoad 0 (4 ∷ 2 ∷ 0 ∷ []) ≡ refused 6 0
-  pub tile-mode : commandIn exampleLoad 0 (4 ∷ 2 ∷ 0 ∷ 0 ∷ []) ≡ refused 8 0
+  pub tile-mode : commandIn exampleLoad 0 (4 ∷ 2 ∷ 0 ∷ 0 ∷ []) ≡ refused 13 1
+  pub tile-mode-before-load : commandIn [] 0 (4 ∷ 2 ∷ 0 ∷ 0 ∷ []) ≡ refused 13 1
   pub tile-past-load : commandIn [] 0 (4 ∷ 0 ∷ 0 ∷ 0 ∷ []) ≡ refused 9 0
   pub tile-address-high : commandIn exampleLoad 0 (4 ∷ 0 ∷ 0 ∷ 1 ∷ []) ≡ refused 9 0
   pub tile-no-lines : commandIn (7 ∷ 8 ∷ 9 ∷ 0 ∷ 1 ∷ 99 ∷ []) 0 (4 ∷ 0 ∷ 0 ∷ 0 ∷ []) ≡ refused 9 0
@@ -166,7 +166,7 @@ pub record CommandCases : Type 0 where
   pub rectangle-cut : commandIn [] 0 (5 ∷ 1 ∷ 2 ∷ 3 ∷ []) ≡ refused 6 0
   pub trapezoid-read : commandIn [] 0 (6 ∷ 1 ∷ 2 ∷ 3 ∷ 4 ∷ 5 ∷ 6 ∷ []) ≡ taken (paint (trapezoid 1 2 3 4 5 6)) nowhere 6
   pub trapezoid-cut : commandIn [] 0 (6 ∷ 1 ∷ 1 ∷ 3 ∷ 4 ∷ 5 ∷ []) ≡ refused 6 0
-  pub trapezoid-one-row : commandIn [] 0 (6 ∷ 1 ∷ 1 ∷ 3 ∷ 4 ∷ 5 ∷ 6 ∷ []) ≡ refused 8 0
+  pub trapezoid-one-row : commandIn [] 0 (6 ∷ 1 ∷ 1 ∷ 3 ∷ 4 ∷ 5 ∷ 6 ∷ []) ≡ refused 14 2
   pub trapezoid-no-rows : commandIn [] 0 (6 ∷ 1 ∷ 0 ∷ 3 ∷ 4 ∷ 5 ∷ 6 ∷ []) ≡ taken (paint (trapezoid 1 0 3 4 5 6)) nowhere 6
   pub runs-read : commandIn [] 0 (7 ∷ 9 ∷ 1 ∷ 4 ∷ 0x8002 ∷ 99 ∷ []) ≡ taken (paint (runs 9 (1 ∷ 4 ∷ 0x8002 ∷ []))) (inBand 2 3) 4
   pub runs-cut : commandIn [] 0 (7 ∷ 9 ∷ 1 ∷ 4 ∷ []) ≡ refused 6 0
@@ -185,5 +185,5 @@ pub record CommandCases : Type 0 where
   pub no-word : commandIn [] 0 [] ≡ refused 6 0
 
 pub command-cases : CommandCases
-unfolding commandIn command priorityFrom tileFrom rectangleFrom trapezoidFrom runsFrom loadRunsFrom samplesFrom loadSamplesFrom arrayExtent linesExtent groupExtent
+unfolding commandIn command commandTable first decoded arrayExtent linesExtent groupExtent
 command-cases = search

@@ -7,7 +7,7 @@ ghost use lib.ListN.{length};
 ghost use Rattle.film_words.specs.Words.{words};
 ghost use Rattle.film_words.specs.Parts.{partOf};
 ghost use Rattle.film_words.specs.Load.{loadWords};
-ghost use Rattle.film_commands.specs.Commands.{priorityFrom, tileFrom, rectangleFrom, trapezoidFrom, runsFrom, loadRunsFrom, samplesFrom, loadSamplesFrom, commandIn};
+ghost use Rattle.film_commands.specs.Commands.{command, commandIn};
 ghost use Rattle.film_commands.specs.Code.{ofSource, partFor, placed, readAs, tilePart};
 use film_words::Extent;
 use film_words::array_extent;
@@ -80,21 +80,35 @@ pub enum Colour {
     },
 }
 
-// The refusals of one command, in their order: an unknown code; a command past its band; an argument that it may not have; a tile, group or
-// array past the load, or a tile with a side of 0.
+// The refusals of one command, in their order: an unknown code; a command past its band; a priority over its limit or falling, a tile mode that is
+// not 0 or 1, a trapezoid of one row; a tile, group or array past the load, or a tile with a side of 0.
 const UNKNOWN_CODE: u8 = 7;
 
 const CUT: u8 = 6;
 
-const BAD_ARGUMENT: u8 = 8;
+const BAD_PRIORITY: u8 = 8;
+
+const BAD_MODE: u8 = 13;
+
+const ONE_ROW: u8 = 14;
 
 const BAD_LOAD: u8 = 9;
 
-// The readers of one command each. `args` are the words after the code word, up to the band's end, and p is the code word's place.
+// The argument words at which they are told, counted from the code word; the others are told at the code word.
+const HIGH_WORD: usize = 2;
+
+const LOW_WORD: usize = 1;
+
+const MODE: usize = 1;
+
+const S_SIZE: usize = 2;
+
+// The readers of one command each. `args` are the words after the code word, up to the band's end, and p is the code word's place. What is answered does
+// not depend on a load or a priority that a reader has not.
 
 fn read_priority(args: &[u8], p: usize, least: u32) -> Read
     requires { ⌜ p < 2 ^ 62 ⌝ }
-    ensures { λ r. ⌜ ((s l : List ℕ) → readAs s l r ≡ placed p (priorityFrom least (words (now (args .entry))))) ⌝ }
+    ensures { λ r. ⌜ ((s l load : List ℕ) → readAs s l r ≡ placed p (command load least 1 (words (now (args .entry))))) ⌝ }
 {
     if args.len() / 2 < 2 {
         return Read::Refused(Refusal {
@@ -104,15 +118,15 @@ fn read_priority(args: &[u8], p: usize, least: u32) -> Read
     }
     if word(args, 1) > 255 {
         return Read::Refused(Refusal {
-            number: BAD_ARGUMENT,
-            place: p,
+            number: BAD_PRIORITY,
+            place: p + HIGH_WORD,
         });
     }
     let value = long(args, 0);
     if value < least {
         return Read::Refused(Refusal {
-            number: BAD_ARGUMENT,
-            place: p,
+            number: BAD_PRIORITY,
+            place: p + LOW_WORD,
         });
     }
     Read::Whole(Command::Priority(value), p + 3)
@@ -121,7 +135,7 @@ fn read_priority(args: &[u8], p: usize, least: u32) -> Read
 // Addresses of the load count after its two count words, here and in the two other readers from the load.
 fn read_tile(args: &[u8], load: &[u8], p: usize) -> Read
     requires { ⌜ p < 2 ^ 62 ⌝ }
-    ensures { λ r. ⌜ ((s : List ℕ) → readAs s (now (load .entry)) r ≡ placed p (tileFrom (loadWords (now (load .entry))) (words (now (args .entry))))) ⌝ }
+    ensures { λ r. ⌜ ((s : List ℕ) (least : ℕ) → readAs s (now (load .entry)) r ≡ placed p (command (loadWords (now (load .entry))) least 4 (words (now (args .entry))))) ⌝ }
 {
     if args.len() / 2 < 3 {
         return Read::Refused(Refusal {
@@ -132,8 +146,8 @@ fn read_tile(args: &[u8], load: &[u8], p: usize) -> Read
     let mode = word(args, 0);
     if mode > 1 {
         return Read::Refused(Refusal {
-            number: BAD_ARGUMENT,
-            place: p,
+            number: BAD_MODE,
+            place: p + MODE,
         });
     }
     let from = 2 + long(args, 1) as usize;
@@ -168,7 +182,7 @@ fn read_tile(args: &[u8], load: &[u8], p: usize) -> Read
 
 fn read_rectangle(args: &[u8], p: usize) -> Read
     requires { ⌜ p < 2 ^ 62 ⌝ }
-    ensures { λ r. ⌜ ((s l : List ℕ) → readAs s l r ≡ placed p (rectangleFrom (words (now (args .entry))))) ⌝ }
+    ensures { λ r. ⌜ ((s l load : List ℕ) (least : ℕ) → readAs s l r ≡ placed p (command load least 5 (words (now (args .entry))))) ⌝ }
 {
     if args.len() / 2 < 4 {
         return Read::Refused(Refusal {
@@ -189,7 +203,7 @@ fn read_rectangle(args: &[u8], p: usize) -> Read
 
 fn read_trapezoid(args: &[u8], p: usize) -> Read
     requires { ⌜ p < 2 ^ 62 ⌝ }
-    ensures { λ r. ⌜ ((s l : List ℕ) → readAs s l r ≡ placed p (trapezoidFrom (words (now (args .entry))))) ⌝ }
+    ensures { λ r. ⌜ ((s l load : List ℕ) (least : ℕ) → readAs s l r ≡ placed p (command load least 6 (words (now (args .entry))))) ⌝ }
 {
     if args.len() / 2 < 6 {
         return Read::Refused(Refusal {
@@ -200,8 +214,8 @@ fn read_trapezoid(args: &[u8], p: usize) -> Read
     let s_size = word(args, 1);
     if s_size == 1 {
         return Read::Refused(Refusal {
-            number: BAD_ARGUMENT,
-            place: p,
+            number: ONE_ROW,
+            place: p + S_SIZE,
         });
     }
     Read::Whole(
@@ -220,7 +234,7 @@ fn read_trapezoid(args: &[u8], p: usize) -> Read
 // The group stands two words after the code word, in the sheet of which `args` is the part from place p + 1 up to `end`.
 fn read_runs(sheet: &[u8], args: &[u8], p: usize, end: usize) -> Read
     requires { ⌜ (p < end) × (end ≤ length (words (now sheet))) × (now args ≡ partOf (now sheet) (p + 1) end) ⌝ }
-    ensures { λ r. ⌜ ((l : List ℕ) → readAs (now (sheet .entry)) l r ≡ placed p (runsFrom (words (now (args .entry))))) ⌝ }
+    ensures { λ r. ⌜ ((l load : List ℕ) (least : ℕ) → readAs (now (sheet .entry)) l r ≡ placed p (command load least 7 (words (now (args .entry))))) ⌝ }
 {
     let r = group_extent(args, 1);
     let Extent::Words(n) = r else {
@@ -246,7 +260,7 @@ fn read_runs(sheet: &[u8], args: &[u8], p: usize, end: usize) -> Read
 
 fn read_load_runs(args: &[u8], load: &[u8], p: usize) -> Read
     requires { ⌜ p < 2 ^ 62 ⌝ }
-    ensures { λ r. ⌜ ((s : List ℕ) → readAs s (now (load .entry)) r ≡ placed p (loadRunsFrom (loadWords (now (load .entry))) (words (now (args .entry))))) ⌝ }
+    ensures { λ r. ⌜ ((s : List ℕ) (least : ℕ) → readAs s (now (load .entry)) r ≡ placed p (command (loadWords (now (load .entry))) least 8 (words (now (args .entry))))) ⌝ }
 {
     if args.len() / 2 < 3 {
         return Read::Refused(Refusal {
@@ -278,7 +292,7 @@ fn read_load_runs(args: &[u8], load: &[u8], p: usize) -> Read
 // The array stands three words after the code word.
 fn read_samples(sheet: &[u8], args: &[u8], p: usize, end: usize) -> Read
     requires { ⌜ (p < end) × (end ≤ length (words (now sheet))) × (now args ≡ partOf (now sheet) (p + 1) end) ⌝ }
-    ensures { λ r. ⌜ ((l : List ℕ) → readAs (now (sheet .entry)) l r ≡ placed p (samplesFrom (words (now (args .entry))))) ⌝ }
+    ensures { λ r. ⌜ ((l load : List ℕ) (least : ℕ) → readAs (now (sheet .entry)) l r ≡ placed p (command load least 9 (words (now (args .entry))))) ⌝ }
 {
     let r = array_extent(args, 2);
     let Extent::Words(n) = r else {
@@ -305,7 +319,7 @@ fn read_samples(sheet: &[u8], args: &[u8], p: usize, end: usize) -> Read
 
 fn read_load_samples(args: &[u8], load: &[u8], p: usize) -> Read
     requires { ⌜ p < 2 ^ 62 ⌝ }
-    ensures { λ r. ⌜ ((s : List ℕ) → readAs s (now (load .entry)) r ≡ placed p (loadSamplesFrom (loadWords (now (load .entry))) (words (now (args .entry))))) ⌝ }
+    ensures { λ r. ⌜ ((s : List ℕ) (least : ℕ) → readAs s (now (load .entry)) r ≡ placed p (command (loadWords (now (load .entry))) least 10 (words (now (args .entry))))) ⌝ }
 {
     if args.len() / 2 < 4 {
         return Read::Refused(Refusal {

@@ -4,19 +4,20 @@ use mathlib.Core.List.{List, _++_}
 use Prim.Native.Nat.{ℕ, _*_, _-_, _<_, _≤_, min}
 use native.Mathlib.Omega.{arith}
 use borrow.Author.Tests.{lt-ltb, le-ltb}
-use lib.Dec.{ltb}
 use lib.ListN.{length, take, drop}
 use lib.Seq.{take-append-seam}
 use Rattle.refusal.specs.Answers.{Answer, given, refused, andThen, Verdict, fine}
+use Rattle.refusal.specs.Tables.{Line, first}
 use Rattle.refusal.specs.Code.{refusedAs}
 use Rattle.refusal.specs.declared.Refusal.{Refusal}
+use Rattle.refusal.proofs.Tables.{first-yes, first-no, first-last, first-append}
 use Rattle.row.specs.Counts.{onesOf, joined}
 use Rattle.film_words.specs.Words.{words}
 use Rattle.film_words.specs.Load.{loadWords}
 use Rattle.film_commands.specs.Band.{Stroke}
 use Rattle.film_herald.specs.Herald.{Herald, heraldOf, pageCount, bandCount, bandStart, bandRows, rowLength, wholeFilm, bandBytes}
-use Rattle.film_herald.specs.Refusals.{Line, first, heraldTable, heraldTest}
-use Rattle.film_herald.proofs.Refusals.{first-yes, first-no, first-last, first-append, herald-fine}
+use Rattle.film_herald.specs.Refusals.{heraldTable, heraldTest}
+use Rattle.film_herald.proofs.Refusals.{herald-fine}
 use Rattle.film_herald.proofs.Herald.{begins, few-bytes}
 use Rattle.film_layout.specs.Layout.{Layout, layoutOf, Page, reachPage, reach}
 use Rattle.film_imaging.specs.Pictures.{rowsOf}

@@ -9,13 +9,15 @@ use borrow.Author.Tests.{lt-ltb, le-ltb, ltb-true}
 use lib.Dec.{ltb}
 use lib.ListN.{length, getD, drop}
 use Rattle.refusal.specs.Answers.{Answer, given, refused, andThen, Verdict, fine, givenOr}
+use Rattle.refusal.specs.Tables.{Line, refuse, first}
+use Rattle.refusal.proofs.Tables.{first-append}
 use Rattle.row.specs.Counts.{joined}
 use Rattle.film_words.specs.Words.{words}
 use Rattle.film_words.specs.Load.{loadWords}
 use Rattle.film_commands.specs.Band.{bandTest}
 use Rattle.film_herald.specs.Herald.{Herald, heraldOf, pageCount, bandCount, bandStart, bandRows}
-use Rattle.film_herald.specs.Refusals.{Line, refuse, first, heraldTest}
-use Rattle.film_herald.proofs.Refusals.{first-append, herald-fine}
+use Rattle.film_herald.specs.Refusals.{heraldTest}
+use Rattle.film_herald.proofs.Refusals.{herald-fine}
 use Rattle.film_layout.specs.Layout.{Span, span, layoutOf, Page, reachPage, reach}
 use Rattle.film_check.specs.Check.{checkLayout, checkAnswer}
 use Rattle.film_check.specs.Promise.{checkedAs}

@@ -7,16 +7,18 @@ use lib.Dec.{ltb}
 use lib.ListN.{length, drop}
 use lib.Count.{ones}
 use Rattle.refusal.specs.Answers.{Answer, given, refused, andThen}
+use Rattle.refusal.specs.Tables.{Line, refuse, first}
 use Rattle.row.specs.Counts.{onesOf, joined}
 use Rattle.row.specs.Dots.{byteOf, rowOf}
 use Rattle.film_words.specs.Words.{words, bytesOf}
 use Rattle.film_words.specs.Load.{loadCount, loadWords}
 use Rattle.film_words.specs.Arrays.{arrayExtent, samplesIn, tileIn}
 use Rattle.film_words.specs.Groups.{linesExtent, groupExtent, linesIn, runsIn}
-use Rattle.film_commands.specs.Commands.{command, priorityFrom, tileFrom, rectangleFrom, trapezoidFrom, runsFrom, loadRunsFrom, samplesFrom, loadSamplesFrom}
+use Rattle.film_commands.specs.Refusals.{commandTable}
+use Rattle.film_commands.specs.Commands.{command, decoded}
 use Rattle.film_commands.specs.Band.{readFrom, readBand, bandTest, strokes, strokesFrom}
 use Rattle.film_herald.specs.Herald.{Herald, heraldOf, pageCount, bandCount, bandStart, bandRows, Window, wholeFilm, bandBytes}
-use Rattle.film_herald.specs.Refusals.{Line, refuse, first, lengthTable, passwordTable, sizeTable, loadTable, pageTable, heraldTable}
+use Rattle.film_herald.specs.Refusals.{lengthTable, passwordTable, sizeTable, loadTable, pageTable, heraldTable}
 use Rattle.film_layout.specs.Layout.{Span, bandsThen, pagesFrom, layoutOf, reachPage, reach}
 use Rattle.film_imaging.specs.Masks.{masked, sample, inRuns, within}
 use Rattle.film_imaging.specs.Colours.{painted, tileDot, tileStart}
@@ -90,6 +92,7 @@ pub record DrawCases : Type 0 where
   -- draw looks at the counts on its way and at its own band alone
   pub other-fault : drawAnswer (onePage (2 ∷ 1 ∷ 99 ∷ 1 ∷ 2 ∷ [])) emptyLoad 0 1 4 ≡ drawn 2 0 (0 ∷ 0 ∷ 0 ∷ 0 ∷ [])
   pub own-fault : drawAnswer (onePage (2 ∷ 2 ∷ 2 ∷ 99 ∷ 0 ∷ [])) emptyLoad 0 0 4 ≡ refused 7 15
+  pub own-argument : drawAnswer (onePage (2 ∷ 5 ∷ 2 ∷ 4 ∷ 2 ∷ 0 ∷ 0 ∷ 0 ∷ [])) emptyLoad 0 0 4 ≡ refused 13 16
   pub room-before-fault : drawAnswer (onePage (2 ∷ 1 ∷ 99 ∷ 0 ∷ [])) emptyLoad 0 0 3 ≡ refused 12 0
   pub wrong-count : drawAnswer (onePage (9 ∷ 0 ∷ 0 ∷ [])) emptyLoad 0 1 4 ≡ refused 5 12
   pub no-band-by-herald : drawAnswer (onePage (9 ∷ 0 ∷ 0 ∷ [])) emptyLoad 0 2 4 ≡ refused 11 0
@@ -98,7 +101,7 @@ pub record DrawCases : Type 0 where
   pub words-after : drawAnswer (onePage (2 ∷ 0 ∷ 0 ∷ 7 ∷ [])) emptyLoad 0 1 4 ≡ drawn 2 0 (0 ∷ 0 ∷ 0 ∷ 0 ∷ [])
 
 pub draw-cases : DrawCases
-unfolding drawAnswer drawTable bufferAfter first lengthTable passwordTable sizeTable loadTable pageTable heraldTable loadCount onesOf ones joined words bytesOf loadWords bandCount bandsThen pagesFrom reachPage reach readBand readFrom strokes strokesFrom command priorityFrom tileFrom rectangleFrom trapezoidFrom runsFrom loadRunsFrom samplesFrom loadSamplesFrom arrayExtent samplesIn tileIn linesExtent groupExtent linesIn runsIn rowsOf numbered rowBytes rowOf byteOf filmOf carryOut painted tileDot tileStart masked sample inRuns within
+unfolding drawAnswer drawTable bufferAfter first lengthTable passwordTable sizeTable loadTable pageTable heraldTable loadCount onesOf ones joined words bytesOf loadWords bandCount bandsThen pagesFrom reachPage reach readBand readFrom strokes strokesFrom command commandTable decoded arrayExtent samplesIn tileIn linesExtent groupExtent linesIn runsIn rowsOf numbered rowBytes rowOf byteOf filmOf carryOut painted tileDot tileStart masked sample inRuns within
 draw-cases =
     record {
       listing-band-0 = refl;
@@ -117,6 +120,7 @@ draw-cases =
       whole-band-room = refl;
       other-fault = refl;
       own-fault = refl;
+      own-argument = refl;
       room-before-fault = refl;
       wrong-count = refl;
       no-band-by-herald = refl;

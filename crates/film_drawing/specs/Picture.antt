@@ -3,12 +3,14 @@ use mathlib.Core.Path.{_≡_, refl}
 use mathlib.Core.List.{List, [], _∷_}
 use Prim.Native.Nat.{ℕ, _/_}
 use Rattle.refusal.specs.Answers.{refused, givenOr}
+use Rattle.refusal.specs.Tables.{first}
 use Rattle.row.specs.Dots.{byteOf, rowOf}
 use Rattle.film_words.specs.Words.{words, bytesOf}
 use Rattle.film_words.specs.Load.{loadWords}
 use Rattle.film_words.specs.Arrays.{arrayExtent, samplesIn, tileIn}
 use Rattle.film_words.specs.Groups.{linesExtent, groupExtent, linesIn, runsIn}
-use Rattle.film_commands.specs.Commands.{command, priorityFrom, tileFrom, rectangleFrom, trapezoidFrom, runsFrom, loadRunsFrom, samplesFrom, loadSamplesFrom}
+use Rattle.film_commands.specs.Refusals.{commandTable}
+use Rattle.film_commands.specs.Commands.{command, decoded}
 use Rattle.film_commands.specs.Band.{readFrom, readBand, Stroke, strokes, strokesFrom}
 use Rattle.film_herald.specs.Herald.{heraldOf, bandCount}
 use Rattle.film_layout.specs.Layout.{Span, span, ends, Page, layoutOf, bandsThen, pagesFrom, reachPage, reach}
@@ -53,7 +55,7 @@ pub record PictureCases : Type 0 where
   pub second-from-load : picture loadBands loadFile 0 ≡ (0x0C ∷ 0 ∷ []) ∷ (0x0C ∷ 0 ∷ []) ∷ []
 
 pub picture-cases : PictureCases
-unfolding picture pageAt bandStrokes words bytesOf loadWords bandCount bandsThen pagesFrom reachPage reach readBand readFrom strokes strokesFrom command priorityFrom tileFrom rectangleFrom trapezoidFrom runsFrom loadRunsFrom samplesFrom loadSamplesFrom arrayExtent samplesIn tileIn linesExtent groupExtent linesIn runsIn numbered rowBytes rowOf byteOf filmOf carryOut painted tileDot tileStart masked sample inRuns within
+unfolding picture pageAt bandStrokes words bytesOf loadWords bandCount bandsThen pagesFrom reachPage reach readBand readFrom strokes strokesFrom first command commandTable decoded arrayExtent samplesIn tileIn linesExtent groupExtent linesIn runsIn numbered rowBytes rowOf byteOf filmOf carryOut painted tileDot tileStart masked sample inRuns within
 picture-cases =
     record {
       listing-picture = refl;

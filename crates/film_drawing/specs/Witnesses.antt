@@ -2,16 +2,18 @@
 use mathlib.Core.Path.{_≡_, refl}
 use mathlib.Core.List.{List, [], _∷_, List·Memᴰ·head, List·Memᴰ·tail}
 use lib.Count.{ones}
+use Rattle.refusal.specs.Tables.{first}
 use Rattle.row.specs.Counts.{onesOf, joined}
 use Rattle.row.specs.Dots.{byteOf, rowOf}
 use Rattle.film_words.specs.Words.{words, bytesOf}
 use Rattle.film_words.specs.Load.{loadCount, loadWords}
 use Rattle.film_words.specs.Arrays.{arrayExtent, samplesIn, tileIn}
 use Rattle.film_words.specs.Groups.{linesExtent, groupExtent, linesIn, runsIn}
-use Rattle.film_commands.specs.Commands.{command, priorityFrom, tileFrom, rectangleFrom, trapezoidFrom, runsFrom, loadRunsFrom, samplesFrom, loadSamplesFrom}
+use Rattle.film_commands.specs.Refusals.{commandTable}
+use Rattle.film_commands.specs.Commands.{command, decoded}
 use Rattle.film_commands.specs.Band.{readFrom, readBand, strokes, strokesFrom}
 use Rattle.film_herald.specs.Herald.{bandCount}
-use Rattle.film_herald.specs.Refusals.{first, lengthTable, passwordTable, sizeTable, loadTable, pageTable, heraldTable, heraldTest}
+use Rattle.film_herald.specs.Refusals.{lengthTable, passwordTable, sizeTable, loadTable, pageTable, heraldTable, heraldTest}
 use Rattle.film_layout.specs.Layout.{bandsThen, pagesFrom, reachPage, reach}
 use Rattle.film_check.specs.Check.{checkAnswer, checkLayout}
 use Rattle.film_check.specs.declared.Checked.the-variants.{Pages}
@@ -58,7 +60,7 @@ pub record Witnesses : Type 0 where
   pub first-band-alike : Alike twoPages twoPages₂ 0 0
 
 pub witnesses : Witnesses
-unfolding checkAnswer checkLayout drawAnswer drawTable bufferAfter pageAt heraldTest first lengthTable passwordTable sizeTable loadTable pageTable heraldTable loadCount onesOf ones joined words bytesOf loadWords bandCount bandsThen pagesFrom reachPage reach readBand readFrom strokes strokesFrom command priorityFrom tileFrom rectangleFrom trapezoidFrom runsFrom loadRunsFrom samplesFrom loadSamplesFrom arrayExtent samplesIn tileIn linesExtent groupExtent linesIn runsIn rowsOf numbered rowBytes rowOf byteOf filmOf carryOut painted tileDot tileStart masked sample inRuns within
+unfolding checkAnswer checkLayout drawAnswer drawTable bufferAfter pageAt heraldTest first lengthTable passwordTable sizeTable loadTable pageTable heraldTable loadCount onesOf ones joined words bytesOf loadWords bandCount bandsThen pagesFrom reachPage reach readBand readFrom strokes strokesFrom command commandTable decoded arrayExtent samplesIn tileIn linesExtent groupExtent linesIn runsIn rowsOf numbered rowBytes rowOf byteOf filmOf carryOut painted tileDot tileStart masked sample inRuns within
 witnesses =
     record {
       listing-passes = record { answer = Pages 1; promised = record { answer-is = refl }; count = 1; is = refl };

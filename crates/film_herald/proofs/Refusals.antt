@@ -1,60 +1,19 @@
--- Laws of the table of refusals: its first line that holds, tables one after another, and what a sheet and load are that pass. Assumes nothing.
-use mathlib.Core.Path.{_≡_, refl, sym, ap, ap₂, _∙_}
-use mathlib.Core.Bool.{Bool, true, false, cond, _||_}
+-- Laws of the refusals before the walk: the table read line by line, and what a sheet and load are that pass. Assumes nothing.
+use mathlib.Core.Path.{_≡_, refl, sym, ap₂, _∙_}
+use mathlib.Core.Bool.{Bool, true, false, _||_}
 use mathlib.Core.List.{List, [], _∷_, _++_}
-use Prim.Native.Nat.{ℕ, zero, suc, _+_, _*_, _%_, _<_, _≤_}
+use Prim.Native.Nat.{ℕ, _+_, _*_, _%_, _<_, _≤_}
 use native.Mathlib.Omega.{arith}
 use borrow.Author.Tests.{ltb-false, eqb-false, eqb-true, not-false}
 use lib.Dec.{ltb}
-use lib.ListN.{length, getD}
-use Rattle.refusal.specs.Answers.{refused, andThen, Verdict, fine}
+use lib.ListN.{length}
+use Rattle.refusal.specs.Answers.{andThen, Verdict, fine}
+use Rattle.refusal.specs.Tables.{Line, refuse, first}
+use Rattle.refusal.proofs.Tables.{line-no, first-append}
 use Rattle.film_words.specs.Words.{words}
 use Rattle.film_words.specs.Load.{loadCount}
 use Rattle.film_herald.specs.Herald.{heraldOf, pageCount, rowLength}
-use Rattle.film_herald.specs.Refusals.{Line, refuse, first, outside, lengthTable, passwordTable, sizeTable, loadTable, pageTable, heraldTable, heraldTest}
-
--- ---- one line
-
--- a line that holds
-pub first-yes : (l : Line) (ls : List Line) → l .when ≡ true → first (l ∷ ls) ≡ refused (l .number) (l .place)
-unfolding first
-first-yes l ls e = ap (λ (t : Bool). cond t (refused (l .number) (l .place)) (first ls)) e
-
--- a line that does not hold
-pub first-no : (l : Line) (ls : List Line) → l .when ≡ false → first (l ∷ ls) ≡ first ls
-unfolding first
-first-no l ls e = ap (λ (t : Bool). cond t (refused (l .number) (l .place)) (first ls)) e
-
--- the last line of a table, where it does not hold
-pub first-last : (l : Line) → l .when ≡ false → first (l ∷ []) ≡ fine
-unfolding first
-first-last l e = first-no l [] e
-
--- a refusal is not fine
-fine-not-refused : (n p : ℕ) → refused n p ≡ fine → ⊥
-fine-not-refused n p e = let z : _≡_ {A = ℕ} 0 1 = cc in omega arith
-
--- where the verdict is fine, the first line does not hold
-pub first-cons : (l : Line) (ls : List Line) → first (l ∷ ls) ≡ fine → (l .when ≡ false) × (first ls ≡ fine)
-unfolding first
-first-cons l ls = go (l .when)
-  where
-    go : (t : Bool) → cond t (refused (l .number) (l .place)) (first ls) ≡ fine → (t ≡ false) × (first ls ≡ fine)
-    go true e = absurd (fine-not-refused (l .number) (l .place) e)
-    go false e = (refl, e)
-
--- ---- two tables, one after the other
-
--- the second is read where nothing is wrong by the first
-pub first-append : (a b : List Line) → first (a ++ b) ≡ andThen (first a) (λ u. first b)
-unfolding first
-first-append [] b = refl
-first-append (l ∷ ls) b = go (l .when) (first-append ls b)
-  where
-    go : (t : Bool) → first (ls ++ b) ≡ andThen (first ls) (λ u. first b)
-        → cond t (refused (l .number) (l .place)) (first (ls ++ b)) ≡ andThen (cond t (refused (l .number) (l .place)) (first ls)) (λ u. first b)
-    go true e = refl
-    go false e = e
+use Rattle.film_herald.specs.Refusals.{outside, lengthTable, passwordTable, sizeTable, loadTable, pageTable, heraldTable, heraldTest}
 
 -- ---- a table read line by line, by calls of `refuse_if`
 
@@ -88,12 +47,6 @@ outside-false low high x e = (ltb-false x low (left (ltb x low) (ltb high x) e),
     right true true e = e
     right true false e = refl
     right false t e = e
-
--- where a table's verdict is fine, line i does not hold
-pub line-no : (ls : List Line) → first ls ≡ fine → (i : ℕ) → getD ls i (refuse 0 0 false) .when ≡ false
-line-no [] e i = refl
-line-no (l ∷ ls) e zero = first-cons l ls e .0
-line-no (l ∷ ls) e (suc i) = line-no ls (first-cons l ls e .1) i
 
 -- what a sheet and load are that nothing is wrong with before the walk: each line of the table
 pub record HeraldFine (sheet load : List ℕ) : Type 0 where

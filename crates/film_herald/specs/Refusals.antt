@@ -1,27 +1,15 @@
--- The refusals before the walk, as a table: it is read from the top, and the first line whose test holds is given.
+-- The refusals before the walk, as a table of refusals.
 use mathlib.Core.Path.{_≡_}
-use mathlib.Core.Bool.{Bool, cond, not, _||_}
+use mathlib.Core.Bool.{Bool, not, _||_}
 use mathlib.Core.List.{List, [], _∷_, _++_}
 use Prim.Native.Nat.{ℕ, _+_, _*_, _%_}
 use lib.Dec.{ltb, eqb}
 use lib.ListN.{length}
 use Rattle.refusal.specs.Answers.{refused, Verdict, fine}
+use Rattle.refusal.specs.Tables.{Line, refuse, first}
 use Rattle.film_words.specs.Words.{words, at, bytesOf}
 use Rattle.film_words.specs.Load.{loadCount}
 use Rattle.film_herald.specs.Herald.{Herald, heraldOf, pageCount, rowLength}
-
--- a line of the table: its test, and the refusal's number and place
-pub record Line : Type 0 where
-  pub when : Bool
-  pub number : ℕ
-  pub place : ℕ
-
-abbrev pub refuse : ℕ → ℕ → Bool → Line
-refuse n p t = record { when = t; number = n; place = p }
-
-unfoldable pub first : List Line → Verdict
-first [] = fine
-first (l ∷ ls) = cond (l .when) (refused (l .number) (l .place)) (first ls)
 
 -- ---- by number
 

@@ -2,10 +2,11 @@
 ghost use mathlib.Core.Path.{_≡_};
 ghost use mathlib.Core.List.{[], _∷_};
 ghost use Rattle.refusal.specs.Answers.{andThen};
+ghost use Rattle.refusal.specs.Tables.{refuse, first};
 ghost use Rattle.refusal.specs.Code.{testedAs};
 ghost use Rattle.film_words.specs.Words.{words};
 ghost use Rattle.film_herald.specs.Herald.{heraldOf, bandCount, rowLength};
-ghost use Rattle.film_herald.specs.Refusals.{refuse, first, heraldTest, outside};
+ghost use Rattle.film_herald.specs.Refusals.{heraldTest, outside};
 use film_words::long;
 use film_words::word;
 use refusal::Refusal;

@@ -6,11 +6,12 @@ use Prim.Native.Nat.{ℕ}
 use lib.Dec.{ltb}
 use lib.ListN.{length}
 use Rattle.refusal.specs.Answers.{given, refused}
+use Rattle.refusal.specs.Tables.{first}
 use Rattle.film_words.specs.Words.{words, bytesOf}
 use Rattle.film_words.specs.Load.{loadCount, loadWords}
 use Rattle.film_commands.specs.Band.{readFrom, readBand}
 use Rattle.film_herald.specs.Herald.{bandCount}
-use Rattle.film_herald.specs.Refusals.{first, lengthTable, passwordTable, sizeTable, loadTable, pageTable, heraldTable, heraldTest}
+use Rattle.film_herald.specs.Refusals.{lengthTable, passwordTable, sizeTable, loadTable, pageTable, heraldTable, heraldTest}
 use Rattle.film_layout.specs.Layout.{bandsThen, pagesFrom}
 use Rattle.film_check.specs.Check.{CheckAnswer, checkLayout, checkAnswer}
 

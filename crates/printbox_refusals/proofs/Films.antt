@@ -2,20 +2,19 @@
 use mathlib.Core.Path.{_≡_, refl}
 use mathlib.Core.Bool.{Bool, true, false, cond, _&&_, false≢true}
 use mathlib.Core.List.{List, [], _∷_, _++_}
-use mathlib.Core.Option.{Option, none, some}
 use Prim.Native.Nat.{ℕ, zero, suc, _+_}
-use lib.Dec.{eqb, leb, ltb}
+use lib.Dec.{eqb, leb}
 use lib.ListN.{length, drop}
 use Rattle.refusal.specs.Answers.{Answer, given, refused, andThen, countedFrom}
-use Rattle.film_words.specs.Words.{words, at, longAt}
+use Rattle.refusal.specs.Tables.{Line, first}
+use Rattle.film_words.specs.Words.{words}
 use Rattle.film_words.specs.Load.{loadWords}
-use Rattle.film_words.specs.Arrays.{arrayExtent}
-use Rattle.film_words.specs.Groups.{groupExtent}
-use Rattle.film_commands.specs.Commands.{Taken, extended, priorityFrom, emptyTile, tileFrom, rectangleFrom, trapezoidFrom, runsFrom, loadRunsFrom, samplesFrom, loadSamplesFrom, command}
+use Rattle.film_commands.specs.Refusals.{commandTable}
+use Rattle.film_commands.specs.Commands.{Taken, decoded, command}
 use Rattle.film_commands.specs.Band.{Reading, priorityAfter, thenRead, readFrom, readBand, bandTest}
 use Rattle.film_herald.specs.Herald.{Herald, heraldOf, pageCount, bandStart, bandRows}
-use Rattle.film_herald.specs.Refusals.{Line, first, lengthTable, passwordTable, sizeTable, loadTable, pageTable, heraldTable, heraldTest}
-use Rattle.film_layout.specs.Layout.{Span, Layout, pageHead, band, ends, bandsThen, pagesFrom, layoutOf, Page, reachPage, reach}
+use Rattle.film_herald.specs.Refusals.{lengthTable, passwordTable, sizeTable, loadTable, pageTable, heraldTable, heraldTest}
+use Rattle.film_layout.specs.Layout.{Layout, pageHead, band, ends, bandsThen, pagesFrom, layoutOf, Page, reachPage, reach}
 use Rattle.film_check.specs.Check.{CheckAnswer, nothingAfter, checkLayout, checkAnswer}
 use Rattle.film_drawing.specs.Draw.{DrawAnswer, drawTable, drawRows, drawAnswer}
 use Rattle.film_drawing.specs.Promise.{due}
@@ -69,28 +68,14 @@ first-in ms [] e = tt
 first-in ms (l ∷ ls) e =
     let h = both (among ms (l .number)) (linesIn ms ls) e in either (AnswerIn ms) (l .when) (h .0) (first-in ms ls (h .1))
 
--- ---- a command: 6, 7, 8, 9
+-- ---- a command: the numbers of its table
 
-module _ (ms : List ℕ) (six : among ms 6 ≡ true) (seven : among ms 7 ≡ true) (eight : among ms 8 ≡ true) (nine : among ms 9 ≡ true) where
-  extended-in : (n : ℕ) (o : Option ℕ) (k : ℕ → Taken) → among ms n ≡ true → ((i : ℕ) → AnswerIn ms (k i)) → AnswerIn ms (extended n o k)
-  extended-in n none k h f = h
-  extended-in n (some i) k h f = f i
-
+module _ (ms : List ℕ) (all : (load : List ℕ) (least code : ℕ) (args : List ℕ) → linesIn ms (commandTable load least code args) ≡ true) where
   command-in : (load : List ℕ) (least code : ℕ) (args : List ℕ) → AnswerIn ms (command load least code args)
-  unfolding command priorityFrom tileFrom rectangleFrom trapezoidFrom runsFrom loadRunsFrom samplesFrom loadSamplesFrom
+  unfolding command
   command-in load least code args =
-      either (AnswerIn ms) (eqb code 1) (either (AnswerIn ms) (leb 2 (length args)) (either (AnswerIn ms) (ltb 255 (at args 1)) eight (either (AnswerIn ms) (ltb (longAt args 0) least) eight tt)) six)
-      (either (AnswerIn ms) (eqb code 2) tt
-      (either (AnswerIn ms) (eqb code 3) tt
-      (either (AnswerIn ms) (eqb code 4) (either (AnswerIn ms) (leb 3 (length args)) (either (AnswerIn ms) (ltb 1 (at args 0)) eight
-      (extended-in 9 (arrayExtent (drop 3 (drop (longAt args 1) load))) _ nine (λ i. either (AnswerIn ms) (emptyTile (drop (longAt args 1) load)) nine tt))) six)
-      (either (AnswerIn ms) (eqb code 5) (either (AnswerIn ms) (leb 4 (length args)) tt six)
-      (either (AnswerIn ms) (eqb code 6) (either (AnswerIn ms) (leb 6 (length args)) (either (AnswerIn ms) (eqb (at args 1) 1) eight tt) six)
-      (either (AnswerIn ms) (eqb code 7) (either (AnswerIn ms) (leb 1 (length args)) (extended-in 6 (groupExtent (drop 1 args)) _ six (λ i. tt)) six)
-      (either (AnswerIn ms) (eqb code 8) (either (AnswerIn ms) (leb 3 (length args)) (extended-in 9 (groupExtent (drop (longAt args 0) load)) _ nine (λ i. tt)) six)
-      (either (AnswerIn ms) (eqb code 9) (either (AnswerIn ms) (leb 2 (length args)) (extended-in 6 (arrayExtent (drop 2 args)) _ six (λ i. tt)) six)
-      (either (AnswerIn ms) (eqb code 10) (either (AnswerIn ms) (leb 4 (length args)) (extended-in 9 (arrayExtent (drop (longAt args 0) load)) _ nine (λ i. tt)) six)
-      seven)))))))))
+      then-in ms (first (commandTable load least code args)) (λ u. given (decoded load code args))
+      (first-in ms (commandTable load least code args) (all load least code args)) (λ u. tt)
 
   -- a band's commands
 
@@ -152,11 +137,11 @@ after-in p [] n = tt
 after-in p (w ∷ ws) n = refl
 
 layout-checked : (load : List ℕ) (n : ℕ) (x : Layout) → LayoutIn checkRefusals x → AnswerIn checkRefusals (checkLayout load n x)
-unfolding checkLayout among
+unfolding checkLayout commandTable among
 layout-checked load n (pageHead w rest) h = layout-checked load n rest h
 layout-checked load n (band x rest) h =
     then-in checkRefusals (bandTest load (x .place) (x .words)) (λ u. checkLayout load n rest)
-    (band-in checkRefusals refl refl refl refl load (x .place) (x .words)) (λ u. layout-checked load n rest h)
+    (band-in checkRefusals (λ load least code args. refl) load (x .place) (x .words)) (λ u. layout-checked load n rest h)
 layout-checked load n (ends a) h = then-in checkRefusals a (λ x. nothingAfter (x .place) (x .words) n) h (λ x. after-in (x .place) (x .words) n)
 
 check-given : (a : CheckAnswer) → AnswerIn checkRefusals a → gives checkRefusals (ofCheck a) ≡ true
@@ -181,7 +166,7 @@ draw-given (given d) h = refl
 draw-given (refused n p) h = h
 
 pub film-draw : (sheet load : List ℕ) (page b room : ℕ) → gives drawRefusals (ofDraw (due (drawAnswer sheet load page b room))) ≡ true
-unfolding drawAnswer drawTable heraldTable lengthTable passwordTable sizeTable loadTable pageTable among
+unfolding drawAnswer drawTable heraldTable lengthTable passwordTable sizeTable loadTable pageTable commandTable among
 film-draw sheet load page b room =
     let table = heraldTable sheet load ++ drawTable h (pageCount ws) page b room in
     draw-given (drawAnswer sheet load page b room)
@@ -204,4 +189,4 @@ film-draw sheet load page b room =
         (reach-in drawRefusals refl b (q .bands) k)
         (λ x.
         then-in drawRefusals (bandTest (loadWords load) (x .place) (x .words)) _
-        (band-in drawRefusals refl refl refl refl (loadWords load) (x .place) (x .words)) (λ u. tt))
+        (band-in drawRefusals (λ load least code args. refl) (loadWords load) (x .place) (x .words)) (λ u. tt))

@@ -28,9 +28,9 @@ pub record Starred : Type 0 where
   pub t1 : lines 3 (trapezoid 0 3 0 2 3 2) ≡ (0xC0 ∷ 0x00 ∷ []) ∷ (0x30 ∷ 0x00 ∷ []) ∷ (0x18 ∷ 0x00 ∷ []) ∷ []
   -- T2: 0, 3, 3, 1, 0, 1 gives 10, 20, 80
   pub t2 : lines 3 (trapezoid 0 3 3 1 0 1) ≡ (0x10 ∷ 0x00 ∷ []) ∷ (0x20 ∷ 0x00 ∷ []) ∷ (0x80 ∷ 0x00 ∷ []) ∷ []
-  -- T3: sSize 1 is 8, at the code word, whatever the other words are
+  -- T3: sSize 1 is 14, told at sSize, whatever the other words are
   pub t3 : (load args : List ℕ) (least sMin fMin fSize fMinLast fSizeLast : ℕ)
-      → commandIn load least (6 ∷ sMin ∷ 1 ∷ fMin ∷ fSize ∷ fMinLast ∷ fSizeLast ∷ args) ≡ refused 8 0
+      → commandIn load least (6 ∷ sMin ∷ 1 ∷ fMin ∷ fSize ∷ fMinLast ∷ fSizeLast ∷ args) ≡ refused 14 2
   -- G1: 5A is black, 26 dots
   pub g1 : (left : ℕ) (rest : List ℕ) → command left 0x5A rest ≡ taken (run true 26) 1
   -- G2: 9A 4A is white, 4762

@@ -82,7 +82,8 @@ fn tile_at(load: Words, address: u32) -> Option<Tile> {
 }
 
 /// The command at a place of a band that ends at `end`, and the place after it.
-/// `load` is the load's words after its count. "In one command 7, 6, 8, 9", each at the code.
+/// `load` is the load's words after its count. "In one command 7, 6, 8, 9", and 13 and 14 "where 8
+/// stood in the order"; 7, 6 and 9 at the code, the others at "the argument word at fault".
 pub fn read<'a>(
     sheet: Words<'a>,
     load: Words<'a>,
@@ -111,8 +112,12 @@ pub fn read<'a>(
     match code {
         1 => {
             let new = long(0)?;
-            if new >> 16 > 255 || new < priority {
-                return refuse(8, place);
+            let (low_word, high_word) = (place + 1, place + 2);
+            if new >> 16 > 255 {
+                return refuse(8, high_word);
+            }
+            if new < priority {
+                return refuse(8, low_word);
             }
             whole(Command::Priority(new))
         }
@@ -121,7 +126,7 @@ pub fn read<'a>(
         4 => {
             let mode = argument(0)?;
             if mode > 1 {
-                return refuse(8, place);
+                return refuse(13, place + 1);
             }
             let tile = tile_at(load, long(1)?).ok_or(past_load)?;
             whole(Command::Tile {
@@ -139,7 +144,7 @@ pub fn read<'a>(
             let s_size = argument(1)?;
             // "sSize 1 has no formula and is refused."
             if s_size == 1 {
-                return refuse(8, place);
+                return refuse(14, place + 2);
             }
             whole(Command::Mask(Mask::Trapezoid {
                 s_min: argument(0)?,

@@ -1,5 +1,6 @@
 //! The stored cases, one a line: tests/data/film.txt and tests/data/gdi.txt of one reading of the
-//! requirements, tests/data/model.txt of another, which has tiles and blocks that are full.
+//! requirements, tests/data/model.txt of another, which has tiles and blocks that are full, and
+//! tests/data/p1.txt of a third, of films with the places of the change P1.
 //!
 //! Fields are split by a blank, bytes are in hexadecimal (`-` for none) and numbers in decimal;
 //! what stands after `=` is the answer. After a refusal the buffer is as it was.
@@ -20,6 +21,7 @@ use printbox::gdi::PageHead;
 pub const FILM: &str = include_str!("../data/film.txt");
 pub const GDI: &str = include_str!("../data/gdi.txt");
 pub const MODEL: &str = include_str!("../data/model.txt");
+pub const P1: &str = include_str!("../data/p1.txt");
 
 /// A case: a call with all that it lends, and what has to come of it.
 pub struct Case {

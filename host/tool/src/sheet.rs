@@ -69,11 +69,16 @@ pub enum Spot {
     Page { page: usize },
     /// A band's count of words.
     Band { page: usize, band: usize },
-    /// A command, counted from 0, at its code.
+    /// A word of a command, its code or an argument.
     Command {
         page: usize,
         band: usize,
+        /// Counted from 0 in its band.
         command: usize,
+        /// The place of its code.
+        code: usize,
+        /// The priority that holds before it.
+        priority: usize,
     },
 }
 
@@ -94,12 +99,7 @@ pub fn locate(sheet: &[u8], place: usize) -> Option<Spot> {
             }
             let end = at + 1 + words.word(at)?;
             if place < end {
-                let command = commands_between(words, at + 1, place)?;
-                return Some(Spot::Command {
-                    page,
-                    band,
-                    command,
-                });
+                return command_at(words, page, band, at + 1, place);
             }
             at = end;
         }
@@ -107,14 +107,34 @@ pub fn locate(sheet: &[u8], place: usize) -> Option<Spot> {
     None
 }
 
-/// How many commands stand end to end between two places.
-fn commands_between(words: Words, mut at: usize, place: usize) -> Option<usize> {
-    let mut commands = 0;
-    while at < place {
-        at += command_words(words, at)?;
-        commands += 1;
+/// The command that has a place of a band, whose first command's code stands at `code`.
+fn command_at(
+    words: Words,
+    page: usize,
+    band: usize,
+    mut code: usize,
+    place: usize,
+) -> Option<Spot> {
+    let (mut command, mut priority) = (0, 0);
+    // A command that is refused at its code may have no length.
+    while code != place {
+        let next = code + command_words(words, code)?;
+        if place < next {
+            break;
+        }
+        if words.word(code) == Some(1) {
+            priority = words.long(code + 1)?;
+        }
+        code = next;
+        command += 1;
     }
-    (at == place).then_some(commands)
+    Some(Spot::Command {
+        page,
+        band,
+        command,
+        code,
+        priority,
+    })
 }
 
 /// The words of the command at a place.
@@ -164,14 +184,20 @@ mod tests {
             for (band, commands) in bands.iter().enumerate() {
                 spots.push((words.len(), Spot::Band { page, band }));
                 words.push(commands.iter().map(Vec::len).sum::<usize>() as u16);
+                let mut priority = 0;
                 for (command, code_and_arguments) in commands.iter().enumerate() {
                     let spot = Spot::Command {
                         page,
                         band,
                         command,
+                        code: words.len(),
+                        priority,
                     };
                     spots.push((words.len(), spot));
                     words.extend(code_and_arguments);
+                    if let [1, low, high] = code_and_arguments[..] {
+                        priority = usize::from(low) + 65_536 * usize::from(high);
+                    }
                 }
             }
         }
@@ -184,6 +210,7 @@ mod tests {
         vec![
             vec![1, 7, 0],
             vec![2],
+            vec![1, 7, 2],
             vec![3],
             vec![5, 0, 1, 0, 1],
             vec![6, 0, 2, 0, 1, 0, 1],
@@ -207,10 +234,12 @@ mod tests {
         ];
         let (sheet, spots) = sheet(&pages);
         assert_eq!(printbox::film::check(&sheet, &[0; 4]), Ok(2));
-        for place in 0..sheet.len() / 2 + 3 {
+        let words = sheet.len() / 2;
+        for place in 0..words + 3 {
+            // A word that is no count and no code is an argument of the command before it.
             let expected = spots
                 .iter()
-                .find(|(at, _)| *at == place)
+                .rfind(|(at, _)| *at <= place && place < words)
                 .map(|(_, spot)| *spot);
             assert_eq!(locate(&sheet, place), expected, "place {place}");
         }
@@ -258,7 +287,8 @@ mod tests {
     }
 
     /// Random sheets: the draw of the band that a fault lies in is refused with that fault, and the
-    /// draw of the band before it is not.
+    /// draw of the band before it is not. A command is refused at its code, or at the argument that
+    /// its number is for.
     #[test]
     fn the_band_that_is_refused() {
         let mut buffer = vec![0; printbox::film::BAND_BYTES];
@@ -276,7 +306,21 @@ mod tests {
             let (page, band) = match (refusal.number, locate(&sheet, place)) {
                 (5 | 6, Some(Spot::Page { page })) => (page, 0),
                 (6, Some(Spot::Band { page, band })) => (page, band),
-                (6..=9, Some(Spot::Command { page, band, .. })) => (page, band),
+                (
+                    number @ (6..=9 | 13 | 14),
+                    Some(Spot::Command {
+                        page, band, code, ..
+                    }),
+                ) => {
+                    let words = match number {
+                        8 => 1..=2,
+                        13 => 1..=1,
+                        14 => 2..=2,
+                        _ => 0..=0,
+                    };
+                    assert!(words.contains(&(place - code)), "seed {seed}, {refusal}");
+                    (page, band)
+                }
                 (5, None) if place == 11 => continue,
                 (1..=4 | 10, _) => continue,
                 (_, other) => panic!("seed {seed}, {refusal}: {other:?}"),

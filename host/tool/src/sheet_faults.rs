@@ -44,7 +44,7 @@ fn no_sheet(sheet: &[u8], place: usize) -> String {
     if words.len() < 12 {
         return format!("fewer than 12 words ({})", words.len());
     }
-    let word = words.word(place).unwrap_or(0);
+    let word = word(sheet, place);
     match place {
         0 => format!("the password is {word:04X} hex, and not AAAA"),
         _ => format!("the version is {word}, and not 1"),
@@ -99,16 +99,21 @@ fn no_page_or_band(sheet: &[u8]) -> String {
     }
 }
 
-/// Numbers 5 to 10, which the walk over pages and bands meets.
+/// Numbers 5 to 10, 13 and 14, which the walk over pages and bands meets.
 fn walk(number: u8, sheet: &[u8], load: &[u8], place: usize) -> String {
     let spot = locate(sheet, place);
     let what = match number {
         5 => count_of_pages_or_bands(sheet, place),
         6 => past_an_end(sheet, place, spot).to_string(),
         7 => "unknown command code".to_string(),
-        8 => argument(sheet, place).to_string(),
+        8 => priority(sheet, place, spot),
         9 => past_the_load(sheet, load, place).to_string(),
         10 => "words after the last page".to_string(),
+        13 => format!("the tile mode is {}, and not 0 or 1", word(sheet, place)),
+        14 => format!(
+            "the trapezoid's sSize is {}, and not 0 or at least 2",
+            word(sheet, place)
+        ),
         _ => "refused".to_string(),
     };
     match spot {
@@ -119,9 +124,12 @@ fn walk(number: u8, sheet: &[u8], load: &[u8], place: usize) -> String {
             page,
             band,
             command,
+            code,
+            ..
         }) => {
             let command = ordinal(command);
-            format!("{what} (page {page}, band {band}, {command} command)")
+            let argument = argument(number, place - code);
+            format!("{what} (page {page}, band {band}, {command} command{argument})")
         }
     }
 }
@@ -130,9 +138,14 @@ fn count_of_pages_or_bands(sheet: &[u8], place: usize) -> String {
     if place == 11 {
         return "the page count is 0".to_string();
     }
-    let there = Words(sheet).word(place).unwrap_or(0);
+    let there = word(sheet, place);
     let wanted = Herald::of(sheet).map_or(0, Herald::bands);
     format!("the count of bands is {there}, and not {wanted}")
+}
+
+/// The word at a place; it is there, since the refusal names it.
+fn word(sheet: &[u8], place: usize) -> usize {
+    Words(sheet).word(place).unwrap_or(0)
 }
 
 fn past_an_end(sheet: &[u8], place: usize, spot: Option<Spot>) -> &'static str {
@@ -145,13 +158,27 @@ fn past_an_end(sheet: &[u8], place: usize, spot: Option<Spot>) -> &'static str {
     }
 }
 
-fn argument(sheet: &[u8], code: usize) -> &'static str {
-    let words = Words(sheet);
-    match words.word(code) {
-        Some(1) if words.word(code + 2) > Some(255) => "priority over 16,777,215",
-        Some(1) => "priority that falls",
-        Some(4) => "tile mode that is not 0 or 1",
-        _ => "trapezoid of one row",
+/// Number 8: its low word falls, or its high word is over the limit.
+fn priority(sheet: &[u8], place: usize, spot: Option<Spot>) -> String {
+    let Some(Spot::Command { code, priority, .. }) = spot else {
+        return "a priority".to_string();
+    };
+    let value = thousands(Words(sheet).long(code + 1).unwrap_or(0) as u64);
+    if place == code + 1 {
+        let before = thousands(priority as u64);
+        return format!("the priority falls from {before} to {value}");
+    }
+    format!("the priority is {value}, more than 16,777,215")
+}
+
+/// The name of the argument that a command is refused at, so many words after its code.
+fn argument(number: u8, word: usize) -> &'static str {
+    match (number, word) {
+        (8, 1) => ", its low word",
+        (8, 2) => ", its high word",
+        (13, 1) => ", its mode",
+        (14, 2) => ", its sSize",
+        _ => "",
     }
 }
 
@@ -328,16 +355,26 @@ mod tests {
             (&[11][..], "refused 7 at 14: unknown command code (page 0, band 0, first command)"),
             (&[2, 0], "refused 7 at 15: unknown command code (page 0, band 0, second command)"),
             (&[2, 5, 1], "refused 6 at 15: the command runs past the end of its band (page 0, band 0, second command)"),
-            (&[1, 0, 256], "refused 8 at 14: priority over 16,777,215 (page 0, band 0, first command)"),
-            (&[1, 1, 0, 1, 0, 0], "refused 8 at 17: priority that falls (page 0, band 0, second command)"),
-            (&[4, 2, 0, 0], "refused 8 at 14: tile mode that is not 0 or 1 (page 0, band 0, first command)"),
-            (&[6, 0, 1, 0, 1, 0, 1], "refused 8 at 14: trapezoid of one row (page 0, band 0, first command)"),
+            (&[1, 0, 256], "refused 8 at 16: the priority is 16,777,216, more than 16,777,215 (page 0, band 0, first command, its high word)"),
+            (&[1, 1, 0, 1, 0, 0], "refused 8 at 18: the priority falls from 1 to 0 (page 0, band 0, second command, its low word)"),
+            (&[1, 9, 0, 2, 1, 0, 1, 1, 65535, 0], "refused 8 at 22: the priority falls from 65,536 to 65,535 (page 0, band 0, fourth command, its low word)"),
+            (&[4, 2, 0, 0], "refused 13 at 15: the tile mode is 2, and not 0 or 1 (page 0, band 0, first command, its mode)"),
+            (&[3, 4, 65535, 0, 0], "refused 13 at 16: the tile mode is 65535, and not 0 or 1 (page 0, band 0, second command, its mode)"),
+            (&[6, 0, 1, 0, 1, 0, 1], "refused 14 at 16: the trapezoid's sSize is 1, and not 0 or at least 2 (page 0, band 0, first command, its sSize)"),
             (&[4, 0, 0, 0], "refused 9 at 14: the tile runs past the load (page 0, band 0, first command)"),
             (&[8, 0, 0, 0], "refused 9 at 14: the run group runs past the load (page 0, band 0, first command)"),
             (&[3, 10, 0, 0, 0, 0], "refused 9 at 15: the sample array runs past the load (page 0, band 0, second command)"),
         ] {
             assert_eq!(commands(words), expected);
         }
+        // A priority that falls after one and an array of 29 words, where it was "8 at 51" once.
+        let mut falling = vec![1, 9, 0, 9, 0, 0, 29, 16];
+        falling.extend([0; 29]);
+        falling.extend([1, 5, 0]);
+        assert_eq!(
+            commands(&falling),
+            "refused 8 at 52: the priority falls from 9 to 5 (page 0, band 0, third command, its low word)"
+        );
         // A tile that is whole but for its second line, and tiles with a side of 0.
         let first = "(page 0, band 0, first command)";
         assert_eq!(

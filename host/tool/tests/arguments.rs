@@ -169,23 +169,23 @@ fn bad_arguments() {
         ),
         (
             &["explain", "0"],
-            "no refusal has the number `0`: they are 1 to 12, 21 to 27 and 31 to 36".to_string(),
+            "no refusal has the number `0`: they are 1 to 14, 21 to 27 and 31 to 36".to_string(),
         ),
         (
-            &["explain", "13"],
-            "no refusal has the number `13`: they are 1 to 12, 21 to 27 and 31 to 36".to_string(),
+            &["explain", "15"],
+            "no refusal has the number `15`: they are 1 to 14, 21 to 27 and 31 to 36".to_string(),
         ),
         (
             &["explain", "28"],
-            "no refusal has the number `28`: they are 1 to 12, 21 to 27 and 31 to 36".to_string(),
+            "no refusal has the number `28`: they are 1 to 14, 21 to 27 and 31 to 36".to_string(),
         ),
         (
             &["explain", "+7"],
-            "no refusal has the number `+7`: they are 1 to 12, 21 to 27 and 31 to 36".to_string(),
+            "no refusal has the number `+7`: they are 1 to 14, 21 to 27 and 31 to 36".to_string(),
         ),
         (
             &["explain", "263"],
-            "no refusal has the number `263`: they are 1 to 12, 21 to 27 and 31 to 36".to_string(),
+            "no refusal has the number `263`: they are 1 to 14, 21 to 27 and 31 to 36".to_string(),
         ),
     ] {
         let expected = ran(2, "", &format!("printbox: {line}\n"));
@@ -334,7 +334,7 @@ fn help() {
 fn explain() {
     for number in 0..=255 {
         let told = run(&["explain", &number.to_string()]);
-        let is_refusal = matches!(number, 1..=12 | 21..=27 | 31..=36);
+        let is_refusal = matches!(number, 1..=14 | 21..=27 | 31..=36);
         assert_eq!(told.status, if is_refusal { 0 } else { 2 }, "{number}");
         if is_refusal {
             assert_eq!(told.error, "");

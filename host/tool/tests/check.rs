@@ -33,6 +33,12 @@ fn one_sheet() {
             ""
         )
     );
+
+    let falling = sheet(2, 16, 2, &[vec![vec![1, 9, 0, 1, 5, 0]]]);
+    let falling = file(&folder, "falling", &falling);
+    let line = "refused 8 at 18: the priority falls from 9 to 5 \
+                (page 0, band 0, second command, its low word)\n";
+    assert_eq!(run(&["check", &falling]), ran(1, line, ""));
 }
 
 #[test]

@@ -9,8 +9,8 @@ use Rattle.film_words.proofs.Words.{length-words}
 use Rattle.film_commands.specs.Commands.{command, commandIn}
 use Rattle.film_commands.specs.Code.{placed, commandOf}
 use Rattle.film_words.proofs.Parts.{part-past, part-empty}
-use Rattle.film_commands.proofs.Commands.{no-command, command-at, command-unknown}
-use Rattle.film_commands.proofs.Answers.{refused-at}
+use Rattle.film_commands.proofs.Commands.{ink-read, clear-read, no-command, command-at, command-unknown}
+use Rattle.film_commands.proofs.Answers.{refused-at, whole-at}
 use Rattle.film_commands.proofs.read_command.Statement.{statement}
 use Rattle.film_commands.proofs.read_command.Tie as tie
 
@@ -82,44 +82,36 @@ read-load-samples-requires : tie.Need-read-load-samples-requires
 read-load-samples-requires c κs = omega arith
 
 returns-3 : tie.Need-returns-3
-unfolding command
-returns-3 c = c .read-priority .ensures _ _ ∙ by (c .before .before) 1 (c .before .match .keys1)
+returns-3 c = c .read-priority .ensures _ _ _ ∙ by (c .before .before) 1 (c .before .match .keys1)
 
 returns-4 : tie.Need-returns-4
-unfolding command commandOf
-returns-4 c = by (c .before) 2 (c .match .keys2)
+unfolding commandOf
+returns-4 c = whole-at (entry (c .before) .args .p) 0 _ _ _ _ (ink-read _ _ _) refl ∙ by (c .before) 2 (c .match .keys2)
 
 returns-5 : tie.Need-returns-5
-unfolding command commandOf
-returns-5 c = by (c .before) 3 (c .match .keys3)
+unfolding commandOf
+returns-5 c = whole-at (entry (c .before) .args .p) 0 _ _ _ _ (clear-read _ _ _) refl ∙ by (c .before) 3 (c .match .keys3)
 
 returns-6 : tie.Need-returns-6
-unfolding command
-returns-6 c = c .read-tile .ensures _ ∙ by (c .before .before) 4 (c .before .match .keys4)
+returns-6 c = c .read-tile .ensures _ _ ∙ by (c .before .before) 4 (c .before .match .keys4)
 
 returns-7 : tie.Need-returns-7
-unfolding command
-returns-7 c = c .read-rectangle .ensures _ _ ∙ by (c .before .before) 5 (c .before .match .keys5)
+returns-7 c = c .read-rectangle .ensures _ _ _ _ ∙ by (c .before .before) 5 (c .before .match .keys5)
 
 returns-8 : tie.Need-returns-8
-unfolding command
-returns-8 c = c .read-trapezoid .ensures _ _ ∙ by (c .before .before) 6 (c .before .match .keys6)
+returns-8 c = c .read-trapezoid .ensures _ _ _ _ ∙ by (c .before .before) 6 (c .before .match .keys6)
 
 returns-9 : tie.Need-returns-9
-unfolding command
-returns-9 c = c .read-runs .ensures _ ∙ by (c .before .before) 7 (c .before .match .keys7)
+returns-9 c = c .read-runs .ensures _ _ _ ∙ by (c .before .before) 7 (c .before .match .keys7)
 
 returns-10 : tie.Need-returns-10
-unfolding command
-returns-10 c = c .read-load-runs .ensures _ ∙ by (c .before .before) 8 (c .before .match .keys8)
+returns-10 c = c .read-load-runs .ensures _ _ ∙ by (c .before .before) 8 (c .before .match .keys8)
 
 returns-11 : tie.Need-returns-11
-unfolding command
-returns-11 c = c .read-samples .ensures _ ∙ by (c .before .before) 9 (c .before .match .keys9)
+returns-11 c = c .read-samples .ensures _ _ _ ∙ by (c .before .before) 9 (c .before .match .keys9)
 
 returns-12 : tie.Need-returns-12
-unfolding command
-returns-12 c = c .read-load-samples .ensures _ ∙ by (c .before .before) 10 (c .before .match .keys10)
+returns-12 c = c .read-load-samples .ensures _ _ ∙ by (c .before .before) 10 (c .before .match .keys10)
 
 returns-13 : tie.Need-returns-13
 returns-13 c =

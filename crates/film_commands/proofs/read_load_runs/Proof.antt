@@ -5,7 +5,6 @@ use native.Mathlib.Omega.{arith}
 use Rattle.film_words.specs.Words.{words}
 use Rattle.film_words.proofs.Words.{length-words}
 use Rattle.film_words.proofs.Answers.{words-some, past-none}
-use Rattle.film_commands.specs.Commands.{loadRunsFrom}
 use Rattle.film_commands.specs.Code.{commandOf, partFor}
 use Rattle.film_commands.proofs.Commands.{too-few, group-room, load-runs-past, load-runs-there}
 use Rattle.film_commands.proofs.Answers.{refused-at, whole-at}
@@ -13,10 +12,9 @@ use Rattle.film_commands.proofs.read_load_runs.Statement.{statement}
 use Rattle.film_commands.proofs.read_load_runs.Tie as tie
 
 returns : tie.Need-returns
-unfolding loadRunsFrom
-returns c = λ s.
+returns c = λ s least.
     let a = c .before .before .before .args in
-    refused-at (a .p) 6 _ (too-few 3 (words (a .args .now)) _ (omega (arith, length-words (a .args .now))))
+    refused-at (a .p) 6 _ (too-few _ least 8 (words (a .args .now)) refl (omega (arith, length-words (a .args .now))))
 
 long-requires : tie.Need-long-requires
 long-requires c κs = tt
@@ -37,11 +35,11 @@ enum-told : tie.Need-enum-told
 enum-told c = c .match .keys2
 
 returns-2 : tie.Need-returns-2
-returns-2 c = λ s.
+returns-2 c = λ s least.
     let x = c .before .before in
     let a = x .before .before .before .before .before .args in
     refused-at (a .p) 9 _
-    (load-runs-past (a .load .now) (words (a .args .now)) _ (x .before .long .ensures) (omega (arith, length-words (a .args .now)))
+    (load-runs-past (a .load .now) (words (a .args .now)) least _ (x .before .long .ensures) (omega (arith, length-words (a .args .now)))
     (past-none _ (sym (c .enum-told .given .1) ∙ x .group-extent .ensures)))
 
 word-requires : tie.Need-word-requires
@@ -59,12 +57,12 @@ add-t7 c = omega arith
 
 returns-3 : tie.Need-returns-3
 unfolding commandOf partFor
-returns-3 c = λ s.
+returns-3 c = λ s least.
     let x = c .before .before .before .before in
     let a = x .before .before .before .before .before .args in
     let n = c .before .before .r .given in
     whole-at (a .p) 3 _ _ _ _
-    (load-runs-there (a .load .now) (words (a .args .now)) _ (x .before .long .ensures) (n .0 .0) (c .word .ensures)
+    (load-runs-there (a .load .now) (words (a .args .now)) least _ (x .before .long .ensures) (n .0 .0) (c .word .ensures)
     (omega (arith, length-words (a .args .now))) (words-some _ _ (sym (n .1) ∙ x .group-extent .ensures)))
     refl
 

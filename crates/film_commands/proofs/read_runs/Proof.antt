@@ -20,10 +20,10 @@ enum-told : tie.Need-enum-told
 enum-told c = c .match .keys2
 
 returns : tie.Need-returns
-returns c = λ l.
+returns c = λ l load least.
     let x = c .before .before in
     let a = x .before .before .before .args in
-    refused-at (a .p) 6 _ (runs-past (words (a .args .now)) (past-none _ (sym (c .enum-told .given .1) ∙ x .group-extent .ensures)))
+    refused-at (a .p) 6 _ (runs-past load (words (a .args .now)) least (past-none _ (sym (c .enum-told .given .1) ∙ x .group-extent .ensures)))
 
 add-from : tie.Need-add-from
 add-from c = omega (arith, length-words (c .before .before .before .before .before .before .args .sheet .now))
@@ -46,13 +46,13 @@ word-requires c κs = tt
 
 returns-2 : tie.Need-returns-2
 unfolding commandOf partFor
-returns-2 c = λ l.
+returns-2 c = λ l load least.
     let x = c .before .before .before .before in
     let b = x .before .before .before in
     let a = b .args in
     let n = c .before .before .r .given in
     whole-at (a .p) _ _ _ _ _
-    (runs-there (a .sheet .now) (a .args .now) (a .p) (a .end) (b .pre .0) (b .pre .1) (b .pre .2) (n .0 .0) (c .word .ensures)
+    (runs-there (a .sheet .now) (a .args .now) (a .p) (a .end) (b .pre .0) (b .pre .1) (b .pre .2) load least (n .0 .0) (c .word .ensures)
     (words-some _ _ (sym (n .1) ∙ x .group-extent .ensures)))
     (omega arith)
 

@@ -6,27 +6,28 @@ use lib.ListN.{length}
 use Rattle.film_words.specs.Words.{words}
 use Rattle.film_words.proofs.Words.{length-words}
 use Rattle.film_words.proofs.Answers.{words-some, past-none}
-use Rattle.film_commands.specs.Commands.{tileFrom}
 use Rattle.film_commands.specs.Code.{commandOf, partFor}
 use Rattle.film_commands.proofs.Commands.{too-few, array-room, tile-mode, tile-past, tile-no-lines, tile-no-dots, tile-there}
-use Rattle.film_commands.proofs.Answers.{refused-at, whole-at}
+use Rattle.film_commands.proofs.Answers.{refused-after, refused-at, whole-at}
 use Rattle.film_commands.proofs.read_tile.Statement.{statement}
 use Rattle.film_commands.proofs.read_tile.Tie as tie
 
 returns : tie.Need-returns
-unfolding tileFrom
-returns c = λ s.
+returns c = λ s least.
     let a = c .before .before .before .args in
-    refused-at (a .p) 6 _ (too-few 3 (words (a .args .now)) _ (omega (arith, length-words (a .args .now))))
+    refused-at (a .p) 6 _ (too-few _ least 4 (words (a .args .now)) refl (omega (arith, length-words (a .args .now))))
 
 word-requires : tie.Need-word-requires
 word-requires c κs = tt
 
+add-t12 : tie.Need-add-t12
+add-t12 c = omega arith
+
 returns-2 : tie.Need-returns-2
-returns-2 c = λ s.
+returns-2 c = λ s least.
     let a = c .before .before .before .before .before .args in
-    refused-at (a .p) 8 _
-    (tile-mode _ (words (a .args .now)) (omega (arith, length-words (a .args .now))) (c .before .word .ensures) (c .if2 .taken))
+    refused-after (a .p) 1 13 _
+    (tile-mode _ (words (a .args .now)) least (omega (arith, length-words (a .args .now))) (c .before .word .ensures) (c .if2 .taken))
 
 long-requires : tie.Need-long-requires
 long-requires c κs = tt
@@ -50,12 +51,12 @@ enum-told : tie.Need-enum-told
 enum-told c = c .match .keys2
 
 returns-3 : tie.Need-returns-3
-returns-3 c = λ s.
+returns-3 c = λ s least.
     let x = c .before .before in
     let e = x .before .before in
     let a = e .before .before .before .before .before .args in
     refused-at (a .p) 9 _
-    (tile-past (a .load .now) (words (a .args .now)) _ _ (x .before .long .ensures) (omega (arith, length-words (a .args .now)))
+    (tile-past (a .load .now) (words (a .args .now)) least _ _ (x .before .long .ensures) (omega (arith, length-words (a .args .now)))
     (e .before .word .ensures) (e .if2 .left) (past-none _ (sym (c .enum-told .given .1) ∙ x .array-extent .ensures)))
 
 add-word : tie.Need-add-word
@@ -65,13 +66,13 @@ word-requires-2 : tie.Need-word-requires-2
 word-requires-2 c κs = tt
 
 returns-4 : tie.Need-returns-4
-returns-4 c = λ s.
+returns-4 c = λ s least.
     let x = c .before .before .before .before .before in
     let e = x .before .before in
     let a = e .before .before .before .before .before .args in
     let n = c .before .before .before .r .given in
     refused-at (a .p) 9 _
-    (tile-no-lines (a .load .now) (words (a .args .now)) _ _ (x .before .long .ensures) (omega (arith, length-words (a .args .now)))
+    (tile-no-lines (a .load .now) (words (a .args .now)) least _ _ (x .before .long .ensures) (omega (arith, length-words (a .args .now)))
     (e .before .word .ensures) (e .if2 .left) (n .0 .0) (words-some _ _ (sym (n .1) ∙ x .array-extent .ensures)) (c .before .word2 .ensures) (c .if3 .taken))
 
 add-word-2 : tie.Need-add-word-2
@@ -81,14 +82,14 @@ word-requires-3 : tie.Need-word-requires-3
 word-requires-3 c κs = tt
 
 returns-5 : tie.Need-returns-5
-returns-5 c = λ s.
+returns-5 c = λ s least.
     let d = c .before .before in
     let x = d .before .before .before .before .before in
     let e = x .before .before in
     let a = e .before .before .before .before .before .args in
     let n = d .before .before .before .r .given in
     refused-at (a .p) 9 _
-    (tile-no-dots (a .load .now) (words (a .args .now)) _ _ (x .before .long .ensures) (omega (arith, length-words (a .args .now)))
+    (tile-no-dots (a .load .now) (words (a .args .now)) least _ _ (x .before .long .ensures) (omega (arith, length-words (a .args .now)))
     (e .before .word .ensures) (e .if2 .left) (n .0 .0) (words-some _ _ (sym (n .1) ∙ x .array-extent .ensures)) (d .before .word2 .ensures) (d .if3 .left)
     (c .before .word3 .ensures) (c .if4 .taken))
 
@@ -114,19 +115,19 @@ add-t8 c = omega (arith, few c)
 add-t9 : tie.Need-add-t9
 add-t9 c = omega (arith, few c)
 
-add-t19 : tie.Need-add-t19
-add-t19 c = omega arith
+add-t20 : tie.Need-add-t20
+add-t20 c = omega arith
 
 returns-6 : tie.Need-returns-6
 unfolding commandOf partFor
-returns-6 c = λ s.
+returns-6 c = λ s least.
     let d = c .before .before in
     let x = d .before .before .before .before .before in
     let e = x .before .before in
     let a = e .before .before .before .before .before .args in
     let n = d .before .before .before .r .given in
     whole-at (a .p) 3 _ _ _ _
-    (tile-there (a .load .now) (words (a .args .now)) _ _ (x .before .long .ensures) (omega (arith, length-words (a .args .now)))
+    (tile-there (a .load .now) (words (a .args .now)) least _ _ (x .before .long .ensures) (omega (arith, length-words (a .args .now)))
     (e .before .word .ensures) (e .if2 .left) (n .0 .0) (words-some _ _ (sym (n .1) ∙ x .array-extent .ensures)) (d .before .word2 .ensures) (d .if3 .left)
     (c .before .word3 .ensures) (c .if4 .left))
     refl
@@ -137,6 +138,7 @@ read-tile-spec =
     (tie.spec
     returns
     word-requires
+    add-t12
     returns-2
     long-requires
     cast-from
@@ -154,5 +156,5 @@ read-tile-spec =
     returns-5
     add-t8
     add-t9
-    add-t19
+    add-t20
     returns-6)

@@ -3,27 +3,28 @@ use mathlib.Core.Path.{refl, sym, _∙_}
 use native.Mathlib.Omega.{arith}
 use Rattle.film_words.specs.Words.{words}
 use Rattle.film_words.proofs.Words.{length-words}
-use Rattle.film_commands.specs.Commands.{trapezoidFrom}
 use Rattle.film_commands.specs.Code.{commandOf, partFor}
 use Rattle.film_commands.proofs.Commands.{too-few, trapezoid-one-row, trapezoid-read}
-use Rattle.film_commands.proofs.Answers.{refused-at, whole-at}
+use Rattle.film_commands.proofs.Answers.{refused-after, refused-at, whole-at}
 use Rattle.film_commands.proofs.read_trapezoid.Statement.{statement}
 use Rattle.film_commands.proofs.read_trapezoid.Tie as tie
 
 returns : tie.Need-returns
-unfolding trapezoidFrom
-returns c = λ s l.
+returns c = λ s l load least.
     let a = c .before .before .args in
-    refused-at (a .p) 6 _ (too-few 6 (words (a .args .now)) _ (omega (arith, length-words (a .args .now))))
+    refused-at (a .p) 6 _ (too-few load least 6 (words (a .args .now)) refl (omega (arith, length-words (a .args .now))))
 
 word-requires : tie.Need-word-requires
 word-requires c κs = tt
 
+add-t8 : tie.Need-add-t8
+add-t8 c = omega arith
+
 returns-2 : tie.Need-returns-2
-returns-2 c = λ s l.
+returns-2 c = λ s l load least.
     let a = c .before .before .before .before .args in
-    refused-at (a .p) 8 _
-    (trapezoid-one-row (words (a .args .now)) (omega (arith, length-words (a .args .now))) (sym (c .before .word .ensures) ∙ c .if2 .taken))
+    refused-after (a .p) 2 14 _
+    (trapezoid-one-row load (words (a .args .now)) least (omega (arith, length-words (a .args .now))) (sym (c .before .word .ensures) ∙ c .if2 .taken))
 
 word-requires-2 : tie.Need-word-requires-2
 word-requires-2 c κs = tt
@@ -45,11 +46,11 @@ add-t4 c = omega arith
 
 returns-3 : tie.Need-returns-3
 unfolding commandOf partFor
-returns-3 c = λ s l.
+returns-3 c = λ s l load least.
     let e = c .before .before .before .before .before in
     let a = e .before .before .before .before .args in
     whole-at (a .p) 6 _ _ _ _
-    (trapezoid-read (words (a .args .now)) (c .before .before .before .before .word2 .ensures) (e .before .word .ensures)
+    (trapezoid-read load (words (a .args .now)) least (c .before .before .before .before .word2 .ensures) (e .before .word .ensures)
     (c .before .before .before .word3 .ensures) (c .before .before .word4 .ensures) (c .before .word5 .ensures) (c .word6 .ensures)
     (omega (arith, length-words (a .args .now))) (e .if2 .left))
     refl
@@ -60,6 +61,7 @@ read-trapezoid-spec =
     (tie.spec
     returns
     word-requires
+    add-t8
     returns-2
     word-requires-2
     word-requires-3

@@ -1,11 +1,11 @@
 -- `film_herald::refuse_if` meets its contract, for a refusal that came before and for none. Assumes nothing.
 use mathlib.Core.Path.{sym, ap, _∙_}
 use mathlib.Core.List.{[], _∷_}
-use Rattle.film_herald.specs.Refusals.{refuse, first}
 use Rattle.refusal.specs.Answers.{andThen}
+use Rattle.refusal.specs.Tables.{refuse, first}
 use Rattle.refusal.specs.Code.{testedAs}
 use Rattle.refusal.specs.declared.Tested.{Tested}
-use Rattle.film_herald.proofs.Refusals.{first-yes, first-last}
+use Rattle.refusal.proofs.Tables.{first-yes, first-last}
 use Rattle.film_herald.proofs.refuse_if.Statement.{statement}
 use Rattle.film_herald.proofs.refuse_if.Tie as tie
 

@@ -20,7 +20,7 @@ fn starred_masks() {
     );
     // T3.
     let one = sheet(3, 8, 3, &[&[6, 0, 1, 3, 1, 0, 1]]);
-    assert_eq!(film_check(&one, &NO_LOAD), Answer::Refused(8, 14));
+    assert_eq!(film_check(&one, &NO_LOAD), Answer::Refused(14, 16));
 }
 
 #[test]
