@@ -1,7 +1,6 @@
 //! A command that is refused for an argument is refused at that argument's word, whatever stands
 //! before it and behind it: random sheets with one such command at a known place, through the
-//! library and `reference`. The check and the draw of the command's band tell it; every other band
-//! is drawn.
+//! library and `reference`.
 
 mod common;
 
@@ -9,12 +8,11 @@ use common::rounds::rounds;
 use common::{Answer, Call, Entry};
 use generate::Rng;
 
-/// 2 lines of 16 dots in each band, and any load count up to 9.
+/// Bands have 2 lines of 16 dots; the load has a tile of one line of one dot.
 const LINES: u16 = 2;
-const LOAD: [u8; 4] = [0; 4];
+const LOAD: [u16; 8] = [6, 0, 0, 0, 0, 1, 1, 0x8000];
 
-/// A command that is refused for an argument: how it is told, the commands before it that make it
-/// so, and its own words.
+/// An argument that a command may not have.
 #[derive(Clone, Copy, Debug)]
 enum Fault {
     Falling,
@@ -27,7 +25,7 @@ const FAULTS: [Fault; 4] = [Fault::Falling, Fault::Oversized, Fault::Mode, Fault
 
 impl Fault {
     /// The refusal's number, and its place in words after the code.
-    fn told(self) -> (u64, u64) {
+    fn told(self) -> (u64, usize) {
         match self {
             Fault::Falling => (8, 1),
             Fault::Oversized => (8, 2),
@@ -36,41 +34,38 @@ impl Fault {
         }
     }
 
-    /// A priority that has to stand before it, or none, and its words.
-    fn words(self, rng: &mut Rng) -> (Vec<u16>, Vec<u16>) {
+    /// The words of such a command, those of a priority that has to stand before it, if any, and
+    /// the words of the command with the nearest argument that passes.
+    fn words(self, rng: &mut Rng) -> (Vec<u16>, Vec<u16>, Vec<u16>) {
         match self {
             Fault::Falling => {
-                let (before, after) = falling(rng);
-                (priority(before), priority(after))
+                let (high, low) = falling(rng);
+                (priority(high), priority(low), priority(high))
             }
             Fault::Oversized => {
+                let low = rng.word();
                 let high = rng.pick(&[256, 257, 0x8000, 0xFFFF]);
-                (vec![], vec![1, rng.word(), high])
+                (vec![], vec![1, low, high], vec![1, low, 255])
             }
-            // The tile runs past the empty load, which would be 9 at the code.
             Fault::Mode => {
                 let mode = rng.pick(&[2, 3, 0x0100, 0x8000, 0xFFFF]);
-                (vec![], vec![4, mode, rng.word(), rng.word()])
+                (vec![], vec![4, mode, 0, 0], vec![4, 1, 0, 0])
             }
             Fault::OneRow => {
-                let mut words = vec![6, rng.word(), 1];
-                words.extend((0..4).map(|_| rng.word()));
-                (vec![], words)
+                let bad = [
+                    6,
+                    rng.word(),
+                    1,
+                    rng.word(),
+                    rng.word(),
+                    rng.word(),
+                    rng.word(),
+                ];
+                let mut mended = bad.to_vec();
+                mended[2] = rng.pick(&[0, 2]);
+                (vec![], bad.to_vec(), mended)
             }
         }
-    }
-
-    /// The same command, but for the argument, which is the nearest that passes; a tile has none
-    /// here, since the load is empty.
-    fn mended(self, before: &[u16], words: &[u16]) -> Option<Vec<u16>> {
-        let mut mended = words.to_vec();
-        match self {
-            Fault::Falling => mended[1..].copy_from_slice(&before[1..]),
-            Fault::Oversized => mended[2] = 255,
-            Fault::Mode => return None,
-            Fault::OneRow => mended[2] = 2,
-        }
-        Some(mended)
     }
 }
 
@@ -98,116 +93,113 @@ fn falling(rng: &mut Rng) -> (u32, u32) {
 fn filler(rng: &mut Rng) -> Vec<u16> {
     let mut words = Vec::new();
     for _ in 0..rng.index(4) {
-        words.extend(match rng.below(5) {
+        words.extend(match rng.below(6) {
             0 => vec![2],
             1 => vec![3],
-            2 => vec![5, rng.word(), rng.word(), rng.word(), rng.word()],
-            3 => vec![7, rng.word(), 1, rng.word(), 0x8000 | rng.word()],
+            2 => vec![4, rng.word() & 1, 0, 0],
+            3 => vec![5, rng.word(), rng.word(), rng.word(), rng.word()],
+            4 => vec![7, rng.word(), 1, rng.word(), 0x8000 | rng.word()],
             _ => vec![9, rng.word(), rng.word(), 1, 17, rng.word(), rng.word()],
         });
     }
     words
 }
 
-/// A sheet of pages of bands of these words, and the place of each band's first command.
-fn sheet(pages: &[Vec<Vec<u16>>]) -> (Vec<u8>, Vec<Vec<usize>>) {
+/// The words of each band of each page.
+type Pages = Vec<Vec<Vec<u16>>>;
+
+/// Pages and bands, as many of each as it comes, of commands that pass.
+fn good_pages(rng: &mut Rng) -> Pages {
+    let (pages, bands) = (1 + rng.index(3), 1 + rng.index(3));
+    let page = |rng: &mut Rng| (0..bands).map(|_| filler(rng)).collect();
+    (0..pages).map(|_| page(rng)).collect()
+}
+
+fn bytes(words: &[u16]) -> Vec<u8> {
+    words.iter().flat_map(|word| word.to_be_bytes()).collect()
+}
+
+/// The sheet of these pages.
+fn sheet(pages: &Pages) -> Vec<u8> {
     let bands = pages[0].len() as u16;
-    let mut words = vec![0xAAAA, 1, 0, 600, 600, LINES * bands, 16, LINES, 9, 0, 1];
+    let mut words = vec![0xAAAA, 1, 0, 600, 600, LINES * bands, 16, LINES, 6, 0, 1];
     words.push(pages.len() as u16);
-    let mut places = Vec::new();
     for page in pages {
         words.push(bands);
-        let mut of_page = Vec::new();
         for band in page {
             words.push(band.len() as u16);
-            of_page.push(words.len());
             words.extend(band);
         }
-        places.push(of_page);
     }
-    let bytes = words.iter().flat_map(|word| word.to_be_bytes()).collect();
-    (bytes, places)
+    bytes(&words)
 }
 
-fn answered(entry: Entry, sheet: &[u8]) -> Result<Answer, String> {
-    let call = Call {
-        entry,
-        inputs: [sheet, &LOAD],
-        buffer: &[0xEE; 2 * LINES as usize + 1],
+/// The place of a band's first command.
+fn place(pages: &Pages, page: usize, band: usize) -> usize {
+    let words = |page: &[Vec<u16>]| -> usize { page.iter().map(|band| 1 + band.len()).sum() };
+    let before: usize = pages[..page].iter().map(|page| 1 + words(page)).sum();
+    12 + before + 1 + words(&pages[page][..band]) + 1
+}
+
+/// What check and draws have to answer: the number of pages and all bands drawn, but where a band
+/// is refused, that refusal of the check and of this band alone.
+fn answers(pages: &Pages, refused: Option<(usize, usize, Answer)>) -> Result<(), String> {
+    let sheet = sheet(pages);
+    let agreed = |entry| {
+        let call = Call {
+            entry,
+            inputs: [&sheet, &bytes(&LOAD)],
+            buffer: &[0xEE; 2 * LINES as usize + 1],
+        };
+        Ok::<_, String>((call.agreed()?.answer, call.to_string()))
     };
-    Ok(call.agreed()?.answer)
-}
-
-/// The answer of the check, and of the draw of each band, page after page.
-fn all(sheet: &[u8], pages: usize, bands: usize) -> Result<(Answer, Vec<Answer>), String> {
-    let check = answered(Entry::FilmCheck, sheet)?;
-    let mut drawn = Vec::new();
-    for page in 0..pages {
-        for band in 0..bands {
-            drawn.push(answered(Entry::FilmDraw { page, band }, sheet)?);
+    let passes = Answer::Done(pages.len() as u64, 0);
+    let (check, call) = agreed(Entry::FilmCheck)?;
+    if check != refused.map_or(passes, |(_, _, told)| told) {
+        return Err(format!("{call}\n{check:?}, and not {refused:?}"));
+    }
+    for page in 0..pages.len() {
+        for band in 0..pages[0].len() {
+            let (drawn, call) = agreed(Entry::FilmDraw { page, band })?;
+            let as_told = match refused {
+                Some((p, b, told)) if (p, b) == (page, band) => drawn == told,
+                _ => matches!(drawn, Answer::Done(rows, _) if rows == LINES.into()),
+            };
+            if !as_told {
+                return Err(format!("{call}\n{drawn:?}, and not {refused:?}"));
+            }
         }
     }
-    Ok((check, drawn))
+    Ok(())
 }
 
-/// One fault in a band of a random sheet; then the same sheet without it.
+/// One such command in a random sheet: told at its argument; with the argument mended all passes;
+/// cut, as the last command of its band, it is 6 at its code.
 fn round(rng: &mut Rng, fault: Fault) -> Result<(), String> {
-    let (pages, bands) = (1 + rng.index(3), 1 + rng.index(3));
-    let mut sheets = vec![vec![vec![]; bands]; pages];
-    for band in sheets.iter_mut().flatten() {
-        *band = filler(rng);
-    }
-    let (page, band) = (rng.index(pages), rng.index(bands));
-    let own = &mut sheets[page][band];
-    let (before, words) = fault.words(rng);
-    own.extend(&before);
-    own.extend(filler(rng));
-    let code = own.len();
-    own.extend(&words);
-    own.extend(filler(rng));
-
-    let (bytes, places) = sheet(&sheets);
+    let mut pages = good_pages(rng);
+    let (page, band) = (rng.index(pages.len()), rng.index(pages[0].len()));
+    let (before, bad, mended) = fault.words(rng);
+    let first = [&pages[page][band][..], &before, &filler(rng)].concat();
+    let last = filler(rng);
+    let code = place(&pages, page, band) + first.len();
     let (number, word) = fault.told();
-    let told = Answer::Refused(number, (places[page][band] + code) as u64 + word);
-    let (check, drawn) = all(&bytes, pages, bands)?;
-    let refused: Vec<bool> = (0..pages * bands)
-        .map(|index| index == page * bands + band)
-        .collect();
-    let as_told = check == told
-        && drawn.iter().zip(&refused).all(|(answer, own)| match own {
-            true => *answer == told,
-            false => matches!(answer, Answer::Done(2, _)),
-        });
-    if !as_told {
-        return Err(format!("{fault:?} at {told:?}: {check:?}, {drawn:?}"));
-    }
 
-    if let Some(mended) = fault.mended(&before, &words) {
-        sheets[page][band][code..code + words.len()].copy_from_slice(&mended);
-        let (check, drawn) = all(&sheet(&sheets).0, pages, bands)?;
-        let passes = check == Answer::Done(pages as u64, 0)
-            && drawn
-                .iter()
-                .all(|answer| matches!(answer, Answer::Done(2, _)));
-        if !passes {
-            return Err(format!("{fault:?}, mended: {check:?}, {drawn:?}"));
-        }
-    }
+    pages[page][band] = [&first[..], &bad, &last].concat();
+    let told = Answer::Refused(number, (code + word) as u64);
+    answers(&pages, Some((page, band, told)))?;
 
-    // Cut behind the argument, in the last band of the sheet, it is 6 at the code.
-    let last = sheets.last_mut().and_then(|page| page.last_mut());
-    let last = last.expect("a band");
-    *last = [filler(rng), before, words[..words.len() - 1].to_vec()].concat();
-    let code = last.len() - (words.len() - 1);
-    let (bytes, places) = sheet(&sheets);
-    let place = places[pages - 1][bands - 1] + code;
-    let entry = Entry::FilmDraw {
-        page: pages - 1,
-        band: bands - 1,
-    };
-    let cut = answered(entry, &bytes)?;
-    if cut != Answer::Refused(6, place as u64) {
-        return Err(format!("{fault:?}, cut: {cut:?}"));
+    pages[page][band] = [&first[..], &mended, &last].concat();
+    answers(&pages, None)?;
+
+    pages[page][band] = [&first[..], &bad[..bad.len() - 1]].concat();
+    let cut = Answer::Refused(6, code as u64);
+    answers(&pages, Some((page, band, cut)))?;
+
+    // Past the load, which would be 9 at the code, the mode is told all the same.
+    if let Fault::Mode = fault {
+        let past = [&bad[..2], &[rng.word().max(1), rng.word()]].concat();
+        pages[page][band] = [&first[..], &past, &last].concat();
+        answers(&pages, Some((page, band, told)))?;
     }
     Ok(())
 }
@@ -220,6 +212,7 @@ fn told_at_the_argument() {
             sheets += 1;
             round(&mut Rng::new(seed), fault)
         });
-        println!("{fault:?}: {sheets} sheets, {:?}", fault.told());
+        let (number, word) = fault.told();
+        println!("{fault:?}: {sheets} sheets, {number} told {word} words after the code");
     }
 }
