@@ -316,6 +316,7 @@ none-to (suc n) code k h l e = go (decLt k n) (λ m. none-to n code k (h .0) m e
     go (yes m) r = r m
     go (no m) r = h .1 (omega arith)
 
+-- then it is 0 or over 10, as the table tests it
 unknown : (code : ℕ) → NoneTo 10 code → (eqb code 0 || ltb 10 code) ≡ true
 unknown zero h = refl
 unknown (suc k) h = rw (ne-eqb (suc k) 0 (λ e. omega arith)) (lt-ltb 10 (suc k) (go (decLt k 10)))
@@ -324,7 +325,7 @@ unknown (suc k) h = rw (ne-eqb (suc k) 0 (λ e. omega arith)) (lt-ltb 10 (suc k)
     go (yes l) = absurd (none-to 10 (suc k) k h l refl)
     go (no l) = omega arith
 
--- it is not any of the ten
+-- and the command is refused
 pub command-unknown : (load : List ℕ) (now code : ℕ) (args : List ℕ) → NoneTo 10 code → command load now code args ≡ refused 7 0
 unfolding command commandTable first
 command-unknown load now code args h = rw (unknown code h) refl

@@ -106,7 +106,7 @@ loadSamplesFrom load args =
     let n = takenWords (arrayExtent array) in
     whole (paint (samples (at args 2) (at args 3) (take n array))) (inLoad (longAt args 0) n) 4
 
--- by its code word, one of 1 to 10
+-- by its code word; a code that is not 1 to 10 is refused
 unfoldable pub decoded : (load : List ℕ) (code : ℕ) (args : List ℕ) → Whole
 decoded load code args =
     cond (eqb code 1) (priorityFrom args)

@@ -103,8 +103,8 @@ const MODE: usize = 1;
 
 const S_SIZE: usize = 2;
 
-// The readers of one command each. `args` are the words after the code word, up to the band's end, and p is the code word's place. What is answered does
-// not depend on a load or a priority that a reader has not.
+// The readers of one command each. `args` are the words after the code word, up to the band's end, and p is the code word's place. A reader that is given
+// no load or no priority promises its answer for every one.
 
 fn read_priority(args: &[u8], p: usize, least: u32) -> Read
     requires { ⌜ p < 2 ^ 62 ⌝ }

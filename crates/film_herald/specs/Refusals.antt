@@ -1,4 +1,4 @@
--- The refusals before the walk, as a table of refusals.
+-- The refusals before the walk, as a table of refusals: by number, and then in their order.
 use mathlib.Core.Path.{_≡_}
 use mathlib.Core.Bool.{Bool, not, _||_}
 use mathlib.Core.List.{List, [], _∷_, _++_}

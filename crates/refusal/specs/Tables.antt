@@ -11,9 +11,11 @@ pub record Line : Type 0 where
   pub number : ℕ
   pub place : ℕ
 
+-- by its number, its place and its test
 abbrev pub refuse : ℕ → ℕ → Bool → Line
 refuse n p t = record { when = t; number = n; place = p }
 
+-- what the table says: the refusal of the first line that holds; nothing is wrong where none does
 unfoldable pub first : List Line → Verdict
 first [] = fine
 first (l ∷ ls) = cond (l .when) (refused (l .number) (l .place)) (first ls)
