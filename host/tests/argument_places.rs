@@ -18,10 +18,9 @@ enum Fault {
     Falling,
     Oversized,
     Mode,
-    OneRow,
 }
 
-const FAULTS: [Fault; 4] = [Fault::Falling, Fault::Oversized, Fault::Mode, Fault::OneRow];
+const FAULTS: [Fault; 3] = [Fault::Falling, Fault::Oversized, Fault::Mode];
 
 impl Fault {
     /// The refusal's number, and its place in words after the code.
@@ -30,7 +29,6 @@ impl Fault {
             Fault::Falling => (8, 1),
             Fault::Oversized => (8, 2),
             Fault::Mode => (13, 1),
-            Fault::OneRow => (14, 2),
         }
     }
 
@@ -50,20 +48,6 @@ impl Fault {
             Fault::Mode => {
                 let mode = rng.pick(&[2, 3, 0x0100, 0x8000, 0xFFFF]);
                 (vec![], vec![4, mode, 0, 0], vec![4, 1, 0, 0])
-            }
-            Fault::OneRow => {
-                let bad = [
-                    6,
-                    rng.word(),
-                    1,
-                    rng.word(),
-                    rng.word(),
-                    rng.word(),
-                    rng.word(),
-                ];
-                let mut mended = bad.to_vec();
-                mended[2] = rng.pick(&[0, 2]);
-                (vec![], bad.to_vec(), mended)
             }
         }
     }

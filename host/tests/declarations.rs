@@ -6,6 +6,7 @@
 mod common;
 
 use common::header::{refusals, HEADER};
+use std::collections::BTreeSet;
 
 const PROVED: &str = include_str!("../../crates/printbox/src/lib.rt");
 const PROVED_STRUCTS: &str = include_str!("../../crates/strip_numbers/src/lib.rt");
@@ -229,6 +230,23 @@ fn header_names_the_proved_refusals() {
             assert_eq!(refusals(&name), proved_refusals(&name), "{name}");
         }
     }
+}
+
+/// The header's table has just the numbers that some entry gives, in their order.
+#[test]
+fn header_explains_the_proved_refusals() {
+    let table = between(HEADER, "counted from 0.\n *\n", " */").next();
+    let explained: Vec<usize> = table
+        .expect("the table")
+        .lines()
+        .filter_map(|line| line[2..].split_whitespace().next()?.parse().ok())
+        .collect();
+    let given: BTreeSet<usize> = entries()
+        .iter()
+        .filter(|Entry { name, .. }| !NEVER_REFUSED.contains(&name.as_str()))
+        .flat_map(|Entry { name, .. }| proved_refusals(name))
+        .collect();
+    assert_eq!(explained, Vec::from_iter(given));
 }
 
 /// The header's numbers of the strip printer are those of the Rust crate.

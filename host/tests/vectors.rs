@@ -3,7 +3,7 @@
 
 mod common;
 
-use common::cases::{case, Case, FILM, GDI, MODEL, P1};
+use common::cases::{case, Case, FILM, GDI, MODEL, P1, P7};
 use common::fenced::{FencedEnd, FencedStart};
 use std::collections::BTreeMap;
 
@@ -95,6 +95,12 @@ fn model() {
 fn p1() {
     let counts = [("film_check", 122), ("film_draw", 600)];
     run("p1.txt", P1, &counts);
+}
+
+#[test]
+fn p7() {
+    let counts = [("film_check", 122), ("film_draw", 600)];
+    run("p7.txt", P7, &counts);
 }
 
 /// A line that is damaged is a fault and never passes for a case.

@@ -68,7 +68,7 @@ pub record CheckCases : Type 0 where
   pub number-9 : oneBand (4 ∷ 4 ∷ 0 ∷ 0 ∷ 0 ∷ []) ≡ refused 9 14
   pub number-10 : oneBand (1 ∷ 2 ∷ 7 ∷ []) ≡ refused 10 15
   pub number-13 : oneBand (4 ∷ 4 ∷ 2 ∷ 0 ∷ 0 ∷ []) ≡ refused 13 15
-  pub number-14 : oneBand (7 ∷ 6 ∷ 0 ∷ 1 ∷ 0 ∷ 2 ∷ 0 ∷ 2 ∷ []) ≡ refused 14 16
+  pub one-row-trapezoid : oneBand (7 ∷ 6 ∷ 0 ∷ 1 ∷ 0 ∷ 2 ∷ 0 ∷ 2 ∷ []) ≡ given 1
   -- page 0's last band has a fault, and page 1 is missing: the first fault met is given
   pub first-fault : checked (start 4 4 ++ (2 ∷ 1 ∷ 1 ∷ 99 ∷ [])) (0 ∷ 0 ∷ []) ≡ refused 7 14
   pub two-pages : checked (start 4 2 ++ (2 ∷ 2 ∷ 0 ∷ 1 ∷ 2 ∷ 2 ∷ 1 ∷ 3 ∷ 0 ∷ [])) (0 ∷ 0 ∷ []) ≡ given 2

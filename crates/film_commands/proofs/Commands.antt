@@ -1,7 +1,7 @@
 -- Laws of the commands: how each ends, by its words, and by the places of what it names in the sheet or the load. Assumes nothing.
 use mathlib.Core.Path.{_≡_, refl, sym, ap, ap₂, _∙_, subst}
 use mathlib.Core.Bool.{Bool, true, false, cond, _||_}
-use mathlib.Core.List.{List, [], _∷_}
+use mathlib.Core.List.{List, []}
 use mathlib.Core.Option.{Option, none, some}
 use Prim.Native.Nat.{ℕ, zero, suc, _+_, _-_, _/_, _<_, _≤_}
 use native.Mathlib.Decide.{decLe, decLt}
@@ -71,24 +71,12 @@ module _ (load ws : List ℕ) (least : ℕ) where
   unfolding command commandTable first decoded
   rectangle-read a b c d l = rw (le-ltb (length ws) 4 l) (cc)
 
-  -- a trapezoid of one row
-  pub trapezoid-one-row : 6 ≤ length ws → at ws 1 ≡ 1 → command load least 6 ws ≡ refused 14 2
-  unfolding command commandTable first
-  trapezoid-one-row l e = rw (le-ltb (length ws) 6 l, eq-eqb (at ws 1) 1 e) refl
-
-  -- of any other number of rows
+  -- a trapezoid
   pub trapezoid-read : {sMin sSize fMin fSize fMinLast fSizeLast : ℕ} → sMin ≡ at ws 0 → sSize ≡ at ws 1 → fMin ≡ at ws 2 → fSize ≡ at ws 3
-      → fMinLast ≡ at ws 4 → fSizeLast ≡ at ws 5 → 6 ≤ length ws → (sSize ≡ 1 → ⊥)
+      → fMinLast ≡ at ws 4 → fSizeLast ≡ at ws 5 → 6 ≤ length ws
       → command load least 6 ws ≡ taken (paint (trapezoid sMin sSize fMin fSize fMinLast fSizeLast)) nowhere 6
   unfolding command commandTable first decoded
-  trapezoid-read a b c d e f l h =
-      rw (le-ltb (length ws) 6 l, ne-eqb (at ws 1) 1 (λ x. h (b ∙ x))) (cc)
-
--- a trapezoid of sSize 1 is refused, whatever its other words are
-pub one-row : (load args : List ℕ) (least sMin fMin fSize fMinLast fSizeLast : ℕ)
-    → commandIn load least (6 ∷ sMin ∷ 1 ∷ fMin ∷ fSize ∷ fMinLast ∷ fSizeLast ∷ args) ≡ refused 14 2
-unfolding commandIn
-one-row load args least sMin fMin fSize fMinLast fSizeLast = trapezoid-one-row load _ least (omega arith) refl
+  trapezoid-read a b c d e f l = rw (le-ltb (length ws) 6 l) (cc)
 
 -- ---- commands that name an array or a group
 

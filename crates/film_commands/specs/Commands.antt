@@ -166,7 +166,7 @@ pub record CommandCases : Type 0 where
   pub rectangle-cut : commandIn [] 0 (5 ∷ 1 ∷ 2 ∷ 3 ∷ []) ≡ refused 6 0
   pub trapezoid-read : commandIn [] 0 (6 ∷ 1 ∷ 2 ∷ 3 ∷ 4 ∷ 5 ∷ 6 ∷ []) ≡ taken (paint (trapezoid 1 2 3 4 5 6)) nowhere 6
   pub trapezoid-cut : commandIn [] 0 (6 ∷ 1 ∷ 1 ∷ 3 ∷ 4 ∷ 5 ∷ []) ≡ refused 6 0
-  pub trapezoid-one-row : commandIn [] 0 (6 ∷ 1 ∷ 1 ∷ 3 ∷ 4 ∷ 5 ∷ 6 ∷ []) ≡ refused 14 2
+  pub trapezoid-one-row : commandIn [] 0 (6 ∷ 1 ∷ 1 ∷ 3 ∷ 4 ∷ 5 ∷ 6 ∷ []) ≡ taken (paint (trapezoid 1 1 3 4 5 6)) nowhere 6
   pub trapezoid-no-rows : commandIn [] 0 (6 ∷ 1 ∷ 0 ∷ 3 ∷ 4 ∷ 5 ∷ 6 ∷ []) ≡ taken (paint (trapezoid 1 0 3 4 5 6)) nowhere 6
   pub runs-read : commandIn [] 0 (7 ∷ 9 ∷ 1 ∷ 4 ∷ 0x8002 ∷ 99 ∷ []) ≡ taken (paint (runs 9 (1 ∷ 4 ∷ 0x8002 ∷ []))) (inBand 2 3) 4
   pub runs-cut : commandIn [] 0 (7 ∷ 9 ∷ 1 ∷ 4 ∷ []) ≡ refused 6 0

@@ -40,8 +40,6 @@ commandTable load least code args =
     ∷ refuse 8 1 (eqb code 1 && ltb (longAt args 0) least)
     -- tile mode not 0 or 1
     ∷ refuse 13 1 (eqb code 4 && ltb 1 (at args 0))
-    -- trapezoid of one row, told at its sSize
-    ∷ refuse 14 2 (eqb code 6 && eqb (at args 1) 1)
     -- tile, run group or array runs past the load, or a tile side is 0
     ∷ refuse 9 0 (eqb code 4 && past (arrayExtent (drop 3 tile)))
     ∷ refuse 9 0 (eqb code 4 && emptyTile tile)

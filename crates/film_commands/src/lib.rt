@@ -90,8 +90,6 @@ const BAD_PRIORITY: u8 = 8;
 
 const BAD_MODE: u8 = 13;
 
-const ONE_ROW: u8 = 14;
-
 const BAD_LOAD: u8 = 9;
 
 // The argument words at which they are told, counted from the code word; the others are told at the code word.
@@ -100,8 +98,6 @@ const HIGH_WORD: usize = 2;
 const LOW_WORD: usize = 1;
 
 const MODE: usize = 1;
-
-const S_SIZE: usize = 2;
 
 // The readers of one command each. `args` are the words after the code word, up to the band's end, and p is the code word's place. A reader that is given
 // no load or no priority promises its answer for every one.
@@ -211,17 +207,10 @@ fn read_trapezoid(args: &[u8], p: usize) -> Read
             place: p,
         });
     }
-    let s_size = word(args, 1);
-    if s_size == 1 {
-        return Read::Refused(Refusal {
-            number: ONE_ROW,
-            place: p + S_SIZE,
-        });
-    }
     Read::Whole(
         Command::Paint(Mask::Trapezoid {
             s_min: word(args, 0),
-            s_size,
+            s_size: word(args, 1),
             f_min: word(args, 2),
             f_size: word(args, 3),
             f_min_last: word(args, 4),

@@ -1,19 +1,19 @@
--- Laws of signed differences and of the quotient rounded up, and the place of an edge in natural numbers. Assumes nothing.
+-- Laws of signed differences, of the quotient rounded up and of the place of an edge. Assumes nothing.
 use mathlib.Core.Path.{_≡_, refl, sym, ap, _∙_}
 use mathlib.Core.Bool.{true, false, false≢true}
 use Prim.Native.Nat.{ℕ, zero, suc, _+_, _-_, _*_, _/_, _%_, _^_, _≤_, _<_, zero-le}
-use native.Mathlib.Nat.{div-le-self, div-add-mod', mod-lt, mul-le-mul, add-mul, add-mul-div-right, div-eq-of-lt, div-le-of-le-mul, div-zero, add-zero, mul-comm, le-refl}
+use native.Mathlib.Nat.{div-le-self, div-add-mod', mod-lt, mul-le-mul, add-mul, add-mul-div-right, div-eq-of-lt, div-le-of-le-mul, div-one, add-zero, mul-comm, le-refl}
 use native.Mathlib.Omega.{arith}
 use native.Mathlib.Decide.{decLe}
 use borrow.Author.Tests.{lt-ltb, ltb-false}
 use lib.Dec.{T}
-use lib.IntN.{ℤ, pos, negsuc, negℤ, natAbs, pos-ne-negsuc, _+ℤ_, _-ℤ_, _*ℤ_}
+use lib.IntN.{ℤ, pos, negsuc, negℤ, natAbs, _+ℤ_, _-ℤ_, _*ℤ_}
 use lib.Signed.{mag, nonNeg, quotZ, ltZ}
 use mir.Syntax.{w64}
 use mir.Val.{SFits, Fits, toZ, ofZ}
 use mir.Facts.{toZ-ofZ}
-use Rattle.film_words.specs.Words.{ceilDiv}
-use Rattle.film_imaging.proofs.Trapezoid.{edgeDot, pos-sub, edge-nat}
+use Rattle.film_imaging.specs.Masks.{edge}
+use Rattle.film_imaging.proofs.Trapezoid.{pos-sub, edge-nat}
 use Rattle.film_edges.specs.Edges.{ceilZ, edgeAt}
 
 -- ---- differences, by the order of the two
@@ -24,6 +24,10 @@ diff-le a b h = pos-sub a b h
 pub diff-lt : (a b : ℕ) → a < b → pos a -ℤ pos b ≡ negsuc (b - suc a)
 diff-lt a zero h = absurd (omega arith)
 diff-lt a (suc b) h = simp (lt-ltb a (suc b) h)
+
+diff-past : (a g : ℕ) → pos a -ℤ pos (a + g) ≡ negℤ (pos g)
+diff-past a zero = diff-le a (a + 0) (omega arith) ∙ ap pos (omega arith)
+diff-past a (suc g) = diff-lt a (a + suc g) (omega arith) ∙ ap negsuc (omega arith)
 
 -- ---- sizes
 
@@ -83,50 +87,62 @@ ceil-down (negsuc v) n h g = refl
 -- ---- the place of an edge
 
 -- whole dots may be added before or after rounding
-ceil-add : (a n v : ℕ) (x : ℤ) → 1 ≤ n → pos (a * n) +ℤ x ≡ pos v → pos a +ℤ ceilZ x n ≡ pos (ceilDiv v n)
+pub ceil-add : (a n : ℕ) (x : ℤ) → 1 ≤ n → pos a +ℤ ceilZ x n ≡ ceilZ (pos (a * n) +ℤ x) n
 unfolding ceilZ
-ceil-add a n v (pos m) h e =
-    let w : a * n + m ≡ v = cc in
-    let t : v + (n - 1) ≡ m + (n - 1) + a * n = omega arith in
+ceil-add a n (pos m) h =
+    let t : a * n + m + (n - 1) ≡ m + (n - 1) + a * n = omega arith in
     ap pos (rw (t, add-mul-div-right (m + (n - 1)) a h) (omega arith))
-ceil-add a n v (negsuc k) h e = go (decLe (suc k) (a * n))
+ceil-add a n (negsuc k) h = go (decLe (suc k) (a * n))
   where
-    go : Dec (suc k ≤ a * n) → pos a +ℤ negℤ (pos (suc k / n)) ≡ pos (ceilDiv v n)
-    go (no l) = absurd (pos-ne-negsuc v (suc k - suc (a * n)) (sym e ∙ diff-lt (a * n) (suc k) (omega arith)))
+    go : Dec (suc k ≤ a * n) → pos a +ℤ negℤ (pos (suc k / n)) ≡ ceilZ (pos (a * n) +ℤ negsuc k) n
     go (yes l) =
-        let f : pos (a * n - suc k) ≡ pos v = sym (diff-le (a * n) (suc k) l) ∙ e in
-        let w : a * n - suc k ≡ v = cc in
         let q = suc k / n in
         let r = suc k % n in
         let b : q ≤ a = div-le-of-le-mul n (rw (mul-comm n a) l) in
         let s : (a - q + q) * n ≡ (a - q) * n + q * n = add-mul (a - q) q n in
         let a-is : a - q + q ≡ a = omega arith in
-        let t : v + (n - 1) ≡ n - 1 - r + (a - q) * n = omega (arith, rw a-is at s, div-add-mod' (suc k) n, mod-lt (suc k) h) in
+        let t : a * n - suc k + (n - 1) ≡ n - 1 - r + (a - q) * n = omega (arith, rw a-is at s, div-add-mod' (suc k) n, mod-lt (suc k) h) in
         let small : n - 1 - r < n = omega arith in
-        diff-le a q b ∙ ap pos (rw (t, add-mul-div-right (n - 1 - r) (a - q) h) (omega (arith, div-eq-of-lt small)))
+        rw (diff-le (a * n) (suc k) l)
+        (diff-le a q b ∙ ap pos (rw (t, add-mul-div-right (n - 1 - r) (a - q) h) (omega (arith, div-eq-of-lt small))))
+    go (no l) =
+        let w = suc k - a * n in
+        let k-is : w + a * n ≡ suc k = omega arith in
+        let q-is : suc k / n ≡ a + w / n = omega (arith, rw k-is at (add-mul-div-right w a h)) in
+        let v : suc (suc k - suc (a * n)) ≡ w = omega arith in
+        rw (diff-lt (a * n) (suc k) (omega arith), v)
+        (ap (λ (x : ℕ). pos a -ℤ pos x) q-is ∙ diff-past a (w / n))
 
--- over no lines it stays at its first place
-pub edge-none : (a z d : ℕ) → edgeAt a z 0 d ≡ pos a
-unfolding ceilZ edgeAt
-edge-none a z d = ap (λ (x : ℤ). pos a +ℤ x) (none ((pos z -ℤ pos a) *ℤ pos d)) ∙ ap pos (add-zero a)
-  where
-    none : (x : ℤ) → ceilZ x 0 ≡ pos 0
-    none (pos v) = ap pos (div-zero (v + 0))
-    none (negsuc v) = ap (λ (q : ℕ). negℤ (pos q)) (div-zero (suc v))
+-- over no lines it is its first place
+pub edge-none : (a z n d : ℕ) → n ≡ 0 → edgeAt a z n d ≡ pos a
+unfolding ceilZ edgeAt edge
+edge-none a z n d h = rw h (ap pos (div-one (a + 0) ∙ add-zero a))
 
--- an edge stays between its ends, so its place is no negative number
-pub edge-place : (a z n d : ℕ) → 1 ≤ n → d ≤ n → edgeAt a z n d ≡ pos (edgeDot a z n d)
-unfolding edgeAt
-edge-place a z n d h l = ceil-add a n (a * (n - d) + z * d) ((pos z -ℤ pos a) *ℤ pos d) h (edge-nat a z n d l)
+-- over some lines only the move from the first line is rounded, once, and not line by line
+pub edge-some : (a z n d : ℕ) → 1 ≤ n → edgeAt a z n d ≡ pos a +ℤ ceilZ ((pos z -ℤ pos a) *ℤ pos d) n
+unfolding edgeAt edge
+edge-some a z zero d h = absurd (omega arith)
+edge-some a z (suc m) d h = sym (ceil-add a (suc m) ((pos z -ℤ pos a) *ℤ pos d) h)
+
+-- it is no negative number up to its last line
+edge-positive : (a z n d : ℕ) → d ≤ n → T (nonNeg (edgeAt a z n d))
+unfolding edgeAt ceilZ
+edge-positive a z zero d l = rw (edge-none a z 0 d refl) tt
+edge-positive a z (suc m) d l = rw (edge-nat a z (suc m) d (omega arith) l) tt
+
+from-positive : (x : ℤ) → T (nonNeg x) → x ≡ pos (natAbs x)
+from-positive (pos m) p = refl
+from-positive (negsuc m) p = absurd p
 
 -- the place as the code takes it out of an i64
-pub record Place (x : ℤ) (m : ℕ) : Type 0 where
+pub record Place (x y : ℤ) : Type 0 where
   pub cast : T (nonNeg (toZ w64 (ofZ w64 x))) × Fits w64 (natAbs (toZ w64 (ofZ w64 x)))
-  pub is : natAbs (toZ w64 (ofZ w64 x)) ≡ m
+  pub is : y ≡ pos (natAbs (toZ w64 (ofZ w64 x)))
 
-pub placed : (x : ℤ) (a z n d : ℕ) → mag x < 2 ^ 63 → x ≡ edgeAt a z n d → 1 ≤ n → d ≤ n → Place x (edgeDot a z n d)
-placed x a z n d small e h l =
-    let p : x ≡ pos (edgeDot a z n d) = e ∙ edge-place a z n d h l in
-    let i : toZ w64 (ofZ w64 x) ≡ pos (edgeDot a z n d) = toZ-ofZ (record { sfits = small }) ∙ p in
-    let m : edgeDot a z n d < 2 ^ 63 = rw p at small in
-    record { cast = rw i (tt, record { fits = omega arith }); is = ap natAbs i }
+pub placed : (x : ℤ) (a z n d : ℕ) → mag x < 2 ^ 63 → x ≡ edgeAt a z n d → d ≤ n → Place x (edgeAt a z n d)
+placed x a z n d small e l =
+    let i : toZ w64 (ofZ w64 x) ≡ x = toZ-ofZ (record { sfits = small }) in
+    let p : T (nonNeg x) = rw e (edge-positive a z n d l) in
+    let y : x ≡ pos (natAbs x) = from-positive x p in
+    let m : natAbs x < 2 ^ 63 = rw y at small in
+    record { cast = rw i (p, record { fits = omega arith }); is = rw i (sym e ∙ y) }

@@ -1,18 +1,18 @@
--- The place of an edge on a line, rounded up. `a` is its place on its first line, `z` its place n lines after it; d lines after the first it is at
--- a + (z − a) · d/n. The difference is signed: the edge may lean toward lesser f.
+-- The place of an edge on a line, rounded up.
 use mathlib.Core.Path.{_≡_}
 use Prim.Native.Nat.{ℕ, suc, _/_}
-use lib.IntN.{ℤ, pos, negsuc, negℤ, _+ℤ_, _-ℤ_, _*ℤ_}
+use lib.IntN.{ℤ, pos, negsuc, negℤ}
 use Rattle.film_words.specs.Words.{ceilDiv}
+use Rattle.film_imaging.specs.Masks.{edge}
 
 -- x / n, rounded up: of a negative x the quotient without its fraction is already the greater one
 unfoldable pub ceilZ : ℤ → ℕ → ℤ
 ceilZ (pos x) n = pos (ceilDiv x n)
 ceilZ (negsuc x) n = negℤ (pos (suc x / n))
 
--- only the move from the first line is rounded, once, and not line by line
+-- the place of an edge, rounded up, d lines after its first line: it is at a there, and at z n lines after it
 unfoldable pub edgeAt : (a z n d : ℕ) → ℤ
-edgeAt a z n d = pos a +ℤ ceilZ ((pos z -ℤ pos a) *ℤ pos d) n
+edgeAt a z n d = let place = edge a z n d in ceilZ (place .numerator) (place .denominator)
 
 -- ---- worked cases
 
@@ -33,9 +33,10 @@ pub record EdgeCases : Type 0 where
   pub third-lines : edgeAt 0 4 12 9 ≡ pos 3
   pub before-line : edgeAt 0 4 12 8 ≡ pos 3
   pub largest : edgeAt 131070 0 65534 65534 ≡ pos 0
-  -- over no lines it stays at its first place
+  -- it may go below zero after its last line
+  pub after-last : edgeAt 1 0 2 5 ≡ negℤ (pos 1)
   pub no-lines : edgeAt 3 7 0 5 ≡ pos 3
 
 pub edge-cases : EdgeCases
-unfolding ceilZ edgeAt
+unfolding ceilZ edgeAt edge
 edge-cases = search

@@ -19,10 +19,11 @@ pub fn edge_at(a: u32, z: u32, n: u16, d: u16) -> i64
     ensures { λ r. ⌜ r ≡ edgeAt a z n d ⌝ }
 {
     let first = a as i64;
+    let last = z as i64;
     if n == 0 {
         return first;
     }
-    let lean = z as i64 - first;
+    let lean = last - first;
     let moved = ceil_signed(lean * d as i64, n);
     first + moved
 }

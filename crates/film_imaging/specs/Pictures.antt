@@ -10,7 +10,7 @@ use Rattle.film_words.specs.Groups.{linesIn, runsIn}
 use Rattle.film_commands.specs.Commands.{Mask, rectangle, trapezoid, runs, samples}
 use Rattle.film_commands.specs.Band.{Colour, solid, tiled, Stroke, stroke}
 use Rattle.film_herald.specs.Herald.{Window, rowLength}
-use Rattle.film_imaging.specs.Masks.{Film, within, inRuns, sample, masked}
+use Rattle.film_imaging.specs.Masks.{Film, within, edge, inRuns, sample, masked}
 use Rattle.film_imaging.specs.Colours.{tileStart, tileDot, painted}
 
 -- the dots that a stroke paints: those of its mask, on rows from `from` on
@@ -72,6 +72,9 @@ pub record PictureCases : Type 0 where
   pub no-wrap : four (inked (solid true) (rectangle 0 1 8 0xFFFF) ∷ []) ≡ (0 ∷ 0xFF ∷ []) ∷ (0 ∷ 0 ∷ []) ∷ (0 ∷ 0 ∷ []) ∷ (0 ∷ 0 ∷ []) ∷ []
   pub off-film : four (inked (solid true) (rectangle 0xFFFF 1 0 16) ∷ []) ≡ (0 ∷ 0 ∷ []) ∷ (0 ∷ 0 ∷ []) ∷ (0 ∷ 0 ∷ []) ∷ (0 ∷ 0 ∷ []) ∷ []
   pub trapezoid-no-rows : four (inked (solid true) (trapezoid 0 0 0 9 0 9) ∷ []) ≡ (0 ∷ 0 ∷ []) ∷ (0 ∷ 0 ∷ []) ∷ (0 ∷ 0 ∷ []) ∷ (0 ∷ 0 ∷ []) ∷ []
+  -- the last edge is ignored, and the film's end cuts the row
+  pub trapezoid-one-row : four (inked (solid true) (trapezoid 1 1 1 3 9 9) ∷ []) ≡ (0 ∷ 0 ∷ []) ∷ (0x70 ∷ 0 ∷ []) ∷ (0 ∷ 0 ∷ []) ∷ (0 ∷ 0 ∷ []) ∷ []
+  pub trapezoid-one-row-largest : four (inked (solid true) (trapezoid 3 1 8 0xFFFF 0 0) ∷ []) ≡ (0 ∷ 0 ∷ []) ∷ (0 ∷ 0 ∷ []) ∷ (0 ∷ 0 ∷ []) ∷ (0 ∷ 0xFF ∷ []) ∷ []
   pub trapezoid-from-a-point : rowsOf (wide 16) 0 3 (inked (solid true) (trapezoid 0 3 0 0 0 4) ∷ []) ≡ (0 ∷ 0 ∷ []) ∷ (0xC0 ∷ 0 ∷ []) ∷ (0xF0 ∷ 0 ∷ []) ∷ []
   pub trapezoid-largest : four (inked (solid true) (trapezoid 0 65535 0 65535 65535 65535) ∷ []) ≡ (0xFF ∷ 0xFF ∷ []) ∷ (0x3F ∷ 0xFF ∷ []) ∷ (0x1F ∷ 0xFF ∷ []) ∷ (0x0F ∷ 0xFF ∷ []) ∷ []
   -- two runs of line 0 overlap, the run of line 1 has no dots, and that of line 2 goes past the film
@@ -98,12 +101,14 @@ pub record PictureCases : Type 0 where
       ≡ (0 ∷ 0 ∷ []) ∷ (0 ∷ 0 ∷ []) ∷ (0xFF ∷ 0 ∷ []) ∷ (0xFF ∷ 0 ∷ []) ∷ []
 
 pub picture-cases : PictureCases
-unfolding rowsOf numbered rowBytes rowOf byteOf filmOf carryOut painted tileDot tileStart masked sample samplesIn tileIn inRuns runsIn linesIn within
+unfolding rowsOf numbered rowBytes rowOf byteOf filmOf carryOut painted tileDot tileStart masked edge sample samplesIn tileIn inRuns runsIn linesIn within
 picture-cases =
     record {
       no-wrap = refl;
       off-film = refl;
       trapezoid-no-rows = refl;
+      trapezoid-one-row = refl;
+      trapezoid-one-row-largest = refl;
       trapezoid-from-a-point = refl;
       trapezoid-largest = refl;
       runs-shifted = refl;

@@ -2,11 +2,13 @@
 use mathlib.Core.Path.{_≡_, refl, sym, ap₂, _∙_}
 use mathlib.Core.Bool.{Bool, true, false, _&&_, _||_, and-false, or-false}
 use mathlib.Core.List.{List, _++_}
-use Prim.Native.Nat.{ℕ, zero, suc, _+_, _-_, _*_, _<_, _≤_, max}
+use Prim.Native.Nat.{ℕ, _+_, _-_, _*_, _<_, _≤_, max}
 use native.Mathlib.Omega.{arith}
 use native.Mathlib.Decide.{decLt}
 use borrow.Author.Tests.{le-leb, lt-leb, le-ltb, eq-eqb, ne-eqb, ltb-false}
 use lib.Dec.{leb, ltb, eqb}
+use lib.IntN.{ℤ, pos}
+use lib.Signed.{leZ, ltZ}
 use lib.ListN.{length, take, drop}
 use Rattle.truth.proofs.Tests.{is-false}
 use Rattle.row.proofs.Dots.{Bytes}
@@ -17,7 +19,8 @@ use Rattle.film_commands.specs.Commands.{rectangle, trapezoid, samples}
 use Rattle.film_herald.specs.Herald.{rowLength}
 use Rattle.film_imaging.specs.Masks.{Film, within, sample, masked}
 use Rattle.film_imaging.proofs.Rectangle.{within-is}
-use Rattle.film_imaging.proofs.Trapezoid.{edgeDot, trapezoid-line, trapezoid-empty, trapezoid-one}
+use Rattle.film_edges.specs.Edges.{edgeAt}
+use Rattle.film_edges.proofs.Stretch.{trapezoid-line}
 use Rattle.film_paint.specs.Rows.{windowOf, paintedRow}
 use Rattle.film_paint.specs.declared.Frame.{Frame}
 use Rattle.film_masks.specs.Bands.{paintedFrame}
@@ -119,17 +122,11 @@ unfolding masked within
 rectangle-dots sMin sSize fMin fSize s h f = rw h refl
 
 -- a trapezoid's are those between its two edges rounded up
-pub trapezoid-dots : (sMin sSize fMin fSize fMinLast fSizeLast s : ℕ) {from to : ℕ} → 1 < sSize → within sMin sSize s ≡ true
-    → from ≡ edgeDot fMin fMinLast (sSize - 1) (s - sMin) → to ≡ edgeDot (fMin + fSize) (fMinLast + fSizeLast) (sSize - 1) (s - sMin)
+pub trapezoid-dots : (sMin sSize fMin fSize fMinLast fSizeLast s : ℕ) {from to : ℕ} → within sMin sSize s ≡ true
+    → edgeAt fMin fMinLast (sSize - 1) (s - sMin) ≡ pos from → edgeAt (fMin + fSize) (fMinLast + fSizeLast) (sSize - 1) (s - sMin) ≡ pos to
     → (f : ℕ) → masked (trapezoid sMin sSize fMin fSize fMinLast fSizeLast) s f ≡ (leb from f && ltb f to)
-trapezoid-dots sMin sSize fMin fSize fMinLast fSizeLast s some h b t f =
-    trapezoid-line sMin sSize fMin fSize fMinLast fSizeLast s f some h ∙ sym (ap₂ (λ (x y : ℕ). leb x f && ltb f y) b t)
-
--- one of fewer than two lines has no dots
-pub trapezoid-few : (sMin sSize fMin fSize fMinLast fSizeLast s f : ℕ) → sSize < 2 → masked (trapezoid sMin sSize fMin fSize fMinLast fSizeLast) s f ≡ false
-trapezoid-few sMin zero fMin fSize fMinLast fSizeLast s f h = trapezoid-empty sMin fMin fSize fMinLast fSizeLast s f
-trapezoid-few sMin (suc zero) fMin fSize fMinLast fSizeLast s f h = trapezoid-one sMin fMin fSize fMinLast fSizeLast s f
-trapezoid-few sMin (suc (suc n)) fMin fSize fMinLast fSizeLast s f h = absurd (omega arith)
+trapezoid-dots sMin sSize fMin fSize fMinLast fSizeLast s h b t f =
+    trapezoid-line sMin sSize fMin fSize fMinLast fSizeLast s f h ∙ ap₂ (λ (x y : ℤ). leZ x (pos f) && ltZ (pos f) y) b t
 
 -- an array's are its samples, from sMin and fMin on
 pub samples-dots : (sMin fMin : ℕ) (ws : List ℕ) (s : ℕ) → sMin ≤ s

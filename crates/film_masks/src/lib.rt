@@ -68,7 +68,7 @@ fn ink_rectangle(
     }
 }
 
-// Inks a trapezoid: on each line the stretch between its two edges, rounded up. One of a single line has no dots.
+// Inks a trapezoid: on each line the stretch between its two edges, rounded up. One of a single line has an edge over no lines, its first.
 fn ink_trapezoid(
     buf: &mut [u8],
     frame: Frame,
@@ -85,14 +85,14 @@ fn ink_trapezoid(
     ensures { λ _. ⌜ now (buf .exit) ≡ paintedFrame frame (colourWith colour (words (now (tile .entry)))) (masked (trapezoid «s_min» «s_size» «f_min» «f_size» «f_min_last» «f_size_last»)) (now (buf .entry)) ⌝ }
 {
     let n = row_bytes(frame.width);
-    if s_size < 2 {
+    if s_size == 0 {
         return;
     }
     let top = frame.top as u32;
     let band_end = top + frame.rows as u32;
     let first = s_min as u32;
-    let mask_end = first + s_size as u32;
     let lines = s_size - 1;
+    let mask_end = first + lines as u32 + 1;
     let a = f_min as u32;
     let z = f_min_last as u32;
     let b = a + f_size as u32;

@@ -2,11 +2,11 @@
 use mathlib.Core.Path.{refl}
 use native.Mathlib.Omega.{arith}
 use Rattle.row.specs.Dots.{byteOf, rowOf}
-use Rattle.film_commands.proofs.Commands.{one-row}
-use Rattle.film_imaging.specs.Masks.{within, masked}
+use Rattle.film_imaging.specs.Masks.{within, edge, masked}
 use Rattle.film_imaging.specs.Colours.{painted}
 use Rattle.film_imaging.specs.Pictures.{carryOut, filmOf, rowBytes, numbered, rowsOf}
 use Rattle.film_imaging.proofs.Rectangle.{rectangle-empty-lines, rectangle-empty-dots}
+use Rattle.film_imaging.proofs.Trapezoid.{trapezoid-one-row}
 use Rattle.gdi_jobs.specs.Commands.{command}
 use Rattle.gdi_jobs.specs.Groups.{admitted, fields, fits, group}
 use Rattle.gdi_jobs.specs.Pages.{next}
@@ -16,7 +16,7 @@ use Rattle.gdi_jobs.proofs.Commands.{command-two}
 use Rattle.starred.specs.Starred.{Starred}
 
 pub starred : Starred
-unfolding rowsOf numbered rowBytes rowOf byteOf filmOf carryOut painted masked within command next lineAt lineFrom lineRow lineBytes lineDot admitted fields fits group commandBytes
+unfolding rowsOf numbered rowBytes rowOf byteOf filmOf carryOut painted masked edge within command next lineAt lineFrom lineRow lineBytes lineDot admitted fields fits group commandBytes
 starred =
     record {
       r = refl;
@@ -24,7 +24,8 @@ starred =
       r0-dots = rectangle-empty-dots;
       t1 = refl;
       t2 = refl;
-      t3 = one-row;
+      t3 = refl;
+      t3-first-edge = trapezoid-one-row;
       g1 = λ left rest. refl;
       g2 = λ left rest h. command-two left 0x9A 0x4A rest (omega arith) h;
       g3 = refl;

@@ -3,8 +3,7 @@ use mathlib.Core.Path.{_≡_}
 use mathlib.Core.Bool.{true, false}
 use mathlib.Core.List.{List, [], _∷_}
 use Prim.Native.Nat.{ℕ, _≤_}
-use Rattle.refusal.specs.Answers.{refused}
-use Rattle.film_commands.specs.Commands.{Mask, rectangle, trapezoid, commandIn}
+use Rattle.film_commands.specs.Commands.{Mask, rectangle, trapezoid}
 use Rattle.film_commands.specs.Band.{solid, stroke}
 use Rattle.film_imaging.specs.Masks.{masked}
 use Rattle.film_imaging.specs.Pictures.{rowsOf}
@@ -28,9 +27,10 @@ pub record Starred : Type 0 where
   pub t1 : lines 3 (trapezoid 0 3 0 2 3 2) ≡ (0xC0 ∷ 0x00 ∷ []) ∷ (0x30 ∷ 0x00 ∷ []) ∷ (0x18 ∷ 0x00 ∷ []) ∷ []
   -- T2: 0, 3, 3, 1, 0, 1 gives 10, 20, 80
   pub t2 : lines 3 (trapezoid 0 3 3 1 0 1) ≡ (0x10 ∷ 0x00 ∷ []) ∷ (0x20 ∷ 0x00 ∷ []) ∷ (0x80 ∷ 0x00 ∷ []) ∷ []
-  -- T3: sSize 1 is 14, told at sSize, whatever the other words are
-  pub t3 : (load args : List ℕ) (least sMin fMin fSize fMinLast fSizeLast : ℕ)
-      → commandIn load least (6 ∷ sMin ∷ 1 ∷ fMin ∷ fSize ∷ fMinLast ∷ fSizeLast ∷ args) ≡ refused 14 2
+  -- T3: 0, 1, 1, 3, 9, 9 gives 70; of one row, a trapezoid is its first edge, whatever its last one is
+  pub t3 : lines 2 (trapezoid 0 1 1 3 9 9) ≡ (0x70 ∷ 0x00 ∷ []) ∷ (0x00 ∷ 0x00 ∷ []) ∷ []
+  pub t3-first-edge : (sMin fMin fSize fMinLast fSizeLast s f : ℕ)
+      → masked (trapezoid sMin 1 fMin fSize fMinLast fSizeLast) s f ≡ masked (rectangle sMin 1 fMin fSize) s f
   -- G1: 5A is black, 26 dots
   pub g1 : (left : ℕ) (rest : List ℕ) → command left 0x5A rest ≡ taken (run true 26) 1
   -- G2: 9A 4A is white, 4762

@@ -110,7 +110,10 @@ fn trapezoids() {
     white(b"leaning-right", 0, INK, trapezoid(3, 0, 2, 3, 2));
     white(b"leaning-left", 0, INK, trapezoid(3, 3, 1, 0, 1));
     white(b"from-a-point", 0, INK, trapezoid(3, 0, 0, 0, 4));
-    white(b"one-line", 0, INK, trapezoid(1, 0, 9, 0, 9));
+    white(b"no-line", 0, INK, trapezoid(0, 0, 9, 0, 9));
+    white(b"one-line", 0, INK, trapezoid(1, 1, 3, 9, 9));
+    white(b"one-line-no-wrap", 0, INK, trapezoid(1, 8, 65535, 0, 0));
+    black(b"one-line-cleared", 0, CLEAR, trapezoid(1, 1, 3, 9, 9));
     white(b"largest", 0, INK, trapezoid(65535, 0, 65535, 65535, 65535));
     white(b"last-lines", 65531, INK, trapezoid(65535, 16, 0, 0, 16));
 }

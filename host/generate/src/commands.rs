@@ -84,16 +84,15 @@ pub fn background(rng: &mut Rng, frame: &Frame) -> Vec<u16> {
     ]
 }
 
-/// A trapezoid that is legal: not of one row.
+/// A trapezoid.
 pub fn trapezoid(rng: &mut Rng, frame: &Frame) -> Vec<u16> {
     let mut words = vec![6, frame.s_min(rng)];
-    let rows = match rng.below(10) {
-        0..=5 => rng.between(2, frame.rows + 6) as u16,
-        6 => 2,
+    words.push(match rng.below(10) {
+        0..=5 => rng.between(1, frame.rows + 6) as u16,
+        6 => rng.pick(&[0, 1, 2]),
         7 => rng.pick(&[3, 4, 5, 7]),
         _ => frame.s_size(rng),
-    };
-    words.push(if rows == 1 { rng.pick(&[0, 2]) } else { rows });
+    });
     let far = match rng.below(4) {
         0 | 1 => frame.dots,
         2 => frame.dots * 3,

@@ -163,28 +163,22 @@ fn in_the_walk(rng: &mut Rng, plan: &mut Plan) -> Option<Cut> {
 }
 
 fn in_a_command(rng: &mut Rng, plan: &mut Plan) {
-    let frame = plan.frame;
     match rng.below(20) {
         0..=2 => {
             let code = rng.pick(&[0, 11, 12, 0x0102, 0x0500, 0x8005, 0xFFFF, 0x000F]);
             put(rng, plan, vec![code]);
         }
         3..=6 => cut_command(rng, plan),
-        7 => {
+        7 | 12 => {
             let high = rng.pick(&[256, 257, 0x8000, 0xFFFF]);
             let low = rng.word();
             put(rng, plan, vec![1, low, high]);
         }
         8 | 9 => falling_priority(rng, plan),
-        10 => {
+        10 | 11 => {
             let mode = rng.pick(&[2, 3, 0x0100, 0x8000, 0xFFFF]);
             let address = rng.word() & 7;
             put(rng, plan, vec![4, mode, address, 0]);
-        }
-        11 | 12 => {
-            let mut words = trapezoid(rng, &frame);
-            words[2] = 1;
-            put(rng, plan, words);
         }
         13 | 14 => past_load(rng, plan),
         15 => cut_by_load(rng, plan),

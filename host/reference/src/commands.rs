@@ -82,8 +82,8 @@ fn tile_at(load: Words, address: u32) -> Option<Tile> {
 }
 
 /// The command at a place of a band that ends at `end`, and the place after it.
-/// `load` is the load's words after its count. "In one command 7, 6, 8, 9", and 13 and 14 "where 8
-/// stood in the order"; 7, 6 and 9 at the code, the others at "the argument word at fault".
+/// `load` is the load's words after its count. "In one command 7, 6, 8, 9", and 13 "where 8 stood
+/// in the order"; 7, 6 and 9 at the code, the others at "the argument word at fault".
 pub fn read<'a>(
     sheet: Words<'a>,
     load: Words<'a>,
@@ -140,21 +140,14 @@ pub fn read<'a>(
             f_min: argument(2)?,
             f_size: argument(3)?,
         })),
-        6 => {
-            let s_size = argument(1)?;
-            // "sSize 1 has no formula and is refused."
-            if s_size == 1 {
-                return refuse(14, place + 2);
-            }
-            whole(Command::Mask(Mask::Trapezoid {
-                s_min: argument(0)?,
-                s_size,
-                f_min: argument(2)?,
-                f_size: argument(3)?,
-                f_min_last: argument(4)?,
-                f_size_last: argument(5)?,
-            }))
-        }
+        6 => whole(Command::Mask(Mask::Trapezoid {
+            s_min: argument(0)?,
+            s_size: argument(1)?,
+            f_min: argument(2)?,
+            f_size: argument(3)?,
+            f_min_last: argument(4)?,
+            f_size_last: argument(5)?,
+        })),
         7 => {
             let s_min = argument(0)?;
             let (group, next) = Group::read(band, place + 2).ok_or(cut)?;

@@ -112,10 +112,15 @@ impl<'a> Placed<'a> {
                 f_min_last,
                 f_size_last,
             } => {
-                let n = i64::from(s_size) - 1;
-                if n < 1 || !in_stretch(s, s_min, s_size) {
+                if !in_stretch(s, s_min, s_size) {
                     return false;
                 }
+                // "Read sSize 1 as the first edge: fMin ≤ f < fMin+fSize, with the last edge
+                // ignored."
+                if s_size == 1 {
+                    return in_stretch(f, f_min, f_size);
+                }
+                let n = i64::from(s_size) - 1;
                 let down = s - i64::from(s_min);
                 let bottom = i64::from(f_min);
                 let bottom_last = i64::from(f_min_last);

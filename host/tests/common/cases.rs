@@ -1,6 +1,6 @@
 //! The stored cases, one a line: tests/data/film.txt and tests/data/gdi.txt of one reading of the
 //! requirements, tests/data/model.txt of another, which has tiles and blocks that are full, and
-//! tests/data/p1.txt of a third, of films with the places of the change P1.
+//! tests/data/p1.txt and tests/data/p7.txt of a third, of films after the changes P1 and P7.
 //!
 //! Fields are split by a blank, bytes are in hexadecimal (`-` for none) and numbers in decimal;
 //! what stands after `=` is the answer. After a refusal the buffer is as it was.
@@ -22,6 +22,7 @@ pub const FILM: &str = include_str!("../data/film.txt");
 pub const GDI: &str = include_str!("../data/gdi.txt");
 pub const MODEL: &str = include_str!("../data/model.txt");
 pub const P1: &str = include_str!("../data/p1.txt");
+pub const P7: &str = include_str!("../data/p7.txt");
 
 /// A case: a call with all that it lends, and what has to come of it.
 pub struct Case {

@@ -307,7 +307,7 @@ mod tests {
                 (5 | 6, Some(Spot::Page { page })) => (page, 0),
                 (6, Some(Spot::Band { page, band })) => (page, band),
                 (
-                    number @ (6..=9 | 13 | 14),
+                    number @ (6..=9 | 13),
                     Some(Spot::Command {
                         page, band, code, ..
                     }),
@@ -315,7 +315,6 @@ mod tests {
                     let words = match number {
                         8 => 1..=2,
                         13 => 1..=1,
-                        14 => 2..=2,
                         _ => 0..=0,
                     };
                     assert!(words.contains(&(place - code)), "seed {seed}, {refusal}");

@@ -99,7 +99,7 @@ fn no_page_or_band(sheet: &[u8]) -> String {
     }
 }
 
-/// Numbers 5 to 10, 13 and 14, which the walk over pages and bands meets.
+/// Numbers 5 to 10 and 13, which the walk over pages and bands meets.
 fn walk(number: u8, sheet: &[u8], load: &[u8], place: usize) -> String {
     let spot = locate(sheet, place);
     let what = match number {
@@ -110,10 +110,6 @@ fn walk(number: u8, sheet: &[u8], load: &[u8], place: usize) -> String {
         9 => past_the_load(sheet, load, place).to_string(),
         10 => "words after the last page".to_string(),
         13 => format!("the tile mode is {}, and not 0 or 1", word(sheet, place)),
-        14 => format!(
-            "the trapezoid's sSize is {}, and not 0 or at least 2",
-            word(sheet, place)
-        ),
         _ => "refused".to_string(),
     };
     match spot {
@@ -177,7 +173,6 @@ fn argument(number: u8, word: usize) -> &'static str {
         (8, 1) => ", its low word",
         (8, 2) => ", its high word",
         (13, 1) => ", its mode",
-        (14, 2) => ", its sSize",
         _ => "",
     }
 }
@@ -360,7 +355,6 @@ mod tests {
             (&[1, 9, 0, 2, 1, 0, 1, 1, 65535, 0], "refused 8 at 22: the priority falls from 65,536 to 65,535 (page 0, band 0, fourth command, its low word)"),
             (&[4, 2, 0, 0], "refused 13 at 15: the tile mode is 2, and not 0 or 1 (page 0, band 0, first command, its mode)"),
             (&[3, 4, 65535, 0, 0], "refused 13 at 16: the tile mode is 65535, and not 0 or 1 (page 0, band 0, second command, its mode)"),
-            (&[6, 0, 1, 0, 1, 0, 1], "refused 14 at 16: the trapezoid's sSize is 1, and not 0 or at least 2 (page 0, band 0, first command, its sSize)"),
             (&[4, 0, 0, 0], "refused 9 at 14: the tile runs past the load (page 0, band 0, first command)"),
             (&[8, 0, 0, 0], "refused 9 at 14: the run group runs past the load (page 0, band 0, first command)"),
             (&[3, 10, 0, 0, 0, 0], "refused 9 at 15: the sample array runs past the load (page 0, band 0, second command)"),

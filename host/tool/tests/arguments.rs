@@ -3,6 +3,7 @@
 mod common;
 
 use common::{file, folder, ran, run, small_sheet, text};
+use std::collections::BTreeSet;
 use std::fs;
 
 /// One clear line on standard error, status 2, and nothing else.
@@ -169,23 +170,23 @@ fn bad_arguments() {
         ),
         (
             &["explain", "0"],
-            "no refusal has the number `0`: they are 1 to 14, 21 to 27 and 31 to 36".to_string(),
+            "no refusal has the number `0`: they are 1 to 13, 21 to 27 and 31 to 36".to_string(),
         ),
         (
-            &["explain", "15"],
-            "no refusal has the number `15`: they are 1 to 14, 21 to 27 and 31 to 36".to_string(),
+            &["explain", "14"],
+            "no refusal has the number `14`: they are 1 to 13, 21 to 27 and 31 to 36".to_string(),
         ),
         (
             &["explain", "28"],
-            "no refusal has the number `28`: they are 1 to 14, 21 to 27 and 31 to 36".to_string(),
+            "no refusal has the number `28`: they are 1 to 13, 21 to 27 and 31 to 36".to_string(),
         ),
         (
             &["explain", "+7"],
-            "no refusal has the number `+7`: they are 1 to 14, 21 to 27 and 31 to 36".to_string(),
+            "no refusal has the number `+7`: they are 1 to 13, 21 to 27 and 31 to 36".to_string(),
         ),
         (
             &["explain", "263"],
-            "no refusal has the number `263`: they are 1 to 14, 21 to 27 and 31 to 36".to_string(),
+            "no refusal has the number `263`: they are 1 to 13, 21 to 27 and 31 to 36".to_string(),
         ),
     ] {
         let expected = ran(2, "", &format!("printbox: {line}\n"));
@@ -332,16 +333,27 @@ fn help() {
 /// A sentence for each number that the header names, and for no other.
 #[test]
 fn explain() {
+    let mut told = Vec::new();
     for number in 0..=255 {
-        let told = run(&["explain", &number.to_string()]);
-        let is_refusal = matches!(number, 1..=14 | 21..=27 | 31..=36);
-        assert_eq!(told.status, if is_refusal { 0 } else { 2 }, "{number}");
+        let sentence = run(&["explain", &number.to_string()]);
+        let is_refusal = matches!(number, 1..=13 | 21..=27 | 31..=36);
+        assert_eq!(sentence.status, if is_refusal { 0 } else { 2 }, "{number}");
         if is_refusal {
-            assert_eq!(told.error, "");
-            assert_eq!(told.output.lines().count(), 1);
-            assert_eq!(told.output.matches('.').count(), 1, "one sentence");
+            assert_eq!(sentence.error, "");
+            assert_eq!(sentence.output.lines().count(), 1);
+            assert_eq!(sentence.output.matches('.').count(), 1, "one sentence");
+            told.push(number);
         }
     }
     let seven = "A command's code is not 1 to 10; the place is the code.\n";
     assert_eq!(run(&["explain", "7"]), ran(0, seven, ""));
+    // The help names just these numbers.
+    let help = run(&["explain", "--help"]).output;
+    let words: Vec<&str> = help.split([' ', '\n', ',', '.']).collect();
+    let named: BTreeSet<u8> = words
+        .windows(3)
+        .filter(|words| words[1] == "to")
+        .flat_map(|words| words[0].parse().unwrap()..=words[2].parse().unwrap())
+        .collect();
+    assert_eq!(Vec::from_iter(named), told);
 }

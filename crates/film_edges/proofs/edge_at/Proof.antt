@@ -8,8 +8,8 @@ use lib.Signed.{mag}
 use mir.Syntax.{w64}
 use mir.Val.{SFits, toZ, ofZ}
 use mir.Facts.{toZ-pos, toZ-ofZ}
-use Rattle.film_edges.specs.Edges.{ceilZ, edgeAt}
-use Rattle.film_edges.proofs.Edges.{mag-diff, mag-times, mag-ceil, mag-add, edge-none}
+use Rattle.film_edges.specs.Edges.{ceilZ}
+use Rattle.film_edges.proofs.Edges.{mag-diff, mag-times, mag-ceil, mag-add, edge-none, edge-some}
 use Rattle.film_edges.proofs.edge_at.Statement.{statement}
 use Rattle.film_edges.proofs.edge_at.Tie as tie
 
@@ -63,11 +63,11 @@ moved-is c = c .ceil-signed .ensures ∙ ap (λ (x : ℤ). ceilZ x (c .before .b
 cast-first : tie.Need-cast-first
 cast-first c = omega arith
 
-returns : tie.Need-returns
-returns c = rw (a-is (c .before), c .if1 .taken) (sym (edge-none (c .before .args .a) (c .before .args .z) (c .before .args .d)))
+cast-last : tie.Need-cast-last
+cast-last c = omega arith
 
-cast-lean : tie.Need-cast-lean
-cast-lean c = omega arith
+returns : tie.Need-returns
+returns c = let e = c .before .args in a-is (c .before) ∙ sym (edge-none (e .a) (e .z) (e .n) (e .d) (omega arith))
 
 sub-lean : tie.Need-sub-lean
 sub-lean c = rw (z-is (c .before), a-is (c .before)) (lean-fits (c .before))
@@ -87,16 +87,18 @@ add-result : tie.Need-add-result
 add-result c = rw (a-is (c .before .before), moved-is c, toZ-ofZ (moved-fits (c .before .before))) (place-fits (c .before .before))
 
 returns-2 : tie.Need-returns-2
-unfolding edgeAt
-returns-2 c = rw (a-is (c .before .before), moved-is c, toZ-ofZ (moved-fits (c .before .before))) (toZ-ofZ (place-fits (c .before .before)))
+returns-2 c =
+    let b = c .before .before in
+    rw (a-is b, moved-is c, toZ-ofZ (moved-fits b))
+    (toZ-ofZ (place-fits b) ∙ sym (edge-some (b .args .a) (b .args .z) (b .args .n) (b .args .d) (omega arith)))
 
 pub edge-at-spec : {M : Type 1} → statement M
 edge-at-spec =
     tie.close
     (tie.spec
     cast-first
+    cast-last
     returns
-    cast-lean
     sub-lean
     cast-ceil-signed
     mul-ceil-signed

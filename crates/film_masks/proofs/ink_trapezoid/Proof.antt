@@ -4,24 +4,26 @@ use mathlib.Core.Logic.{⊎-elim}
 use mathlib.Core.Path.{sym}
 use Prim.Native.Nat.{ℕ, _+_, _-_}
 use native.Mathlib.Omega.{arith}
+use lib.IntN.{ℤ}
 use borrow.Author.Tests.{ltb-true, ltb-false}
 use Rattle.film_words.specs.Words.{words}
 use Rattle.film_commands.specs.Commands.{trapezoid}
 use Rattle.film_commands.specs.Code.{colourWith}
 use Rattle.film_imaging.specs.Masks.{masked}
-use Rattle.film_imaging.proofs.Trapezoid.{edgeDot, trapezoid-off}
+use Rattle.film_imaging.proofs.Trapezoid.{trapezoid-off, trapezoid-empty}
+use Rattle.film_edges.specs.Edges.{edgeAt}
 use Rattle.film_edges.proofs.Edges.{Place, placed}
 use Rattle.film_masks.proofs.Bands.{band-none}
-use Rattle.film_masks.proofs.Lines.{Lined, lined-first, lined-length, lined-within, lined-next, lined-done, lined-below, trapezoid-dots, trapezoid-few}
+use Rattle.film_masks.proofs.Lines.{Lined, lined-first, lined-length, lined-within, lined-next, lined-done, lined-below, trapezoid-dots}
 use Rattle.film_masks.proofs.ink_trapezoid.Statement.{statement}
 use Rattle.film_masks.proofs.ink_trapezoid.Tie as tie
 
 abbrev Inv-loop : tie.InvT-loop
-Inv-loop buf₀ frame s-min s-size f-min f-size f-min-last f-size-last colour tile n top band-end first mask-end lines a z b y s₀ buf s =
+Inv-loop buf₀ frame s-min s-size f-min f-size f-min-last f-size-last colour tile n top band-end first lines mask-end a z b y s₀ buf s =
     Lined frame (colourWith colour (words tile)) (masked (trapezoid s-min s-size f-min f-size f-min-last f-size-last)) s-min s-size buf₀ buf s
 
 abbrev μ-loop : tie.MeasureT-loop
-μ-loop buf₀ frame s-min s-size f-min f-size f-min-last f-size-last colour tile n top band-end first mask-end lines a z b y s₀ buf s = mask-end - s
+μ-loop buf₀ frame s-min s-size f-min f-size f-min-last f-size-last colour tile n top band-end first lines mask-end a z b y s₀ buf s = mask-end - s
 
 row-bytes-requires : tie.Need-row-bytes-requires Inv-loop μ-loop
 row-bytes-requires c κs = tt
@@ -29,7 +31,7 @@ row-bytes-requires c κs = tt
 returns : tie.Need-returns Inv-loop μ-loop
 returns c =
     let e = c .before .before .before in
-    sym (band-none _ _ _ _ _ _ (λ i. e .slice-known .given i .fits) (λ s f a b. trapezoid-few _ _ _ _ _ _ s f (omega arith)))
+    sym (band-none _ _ _ _ _ _ (λ i. e .slice-known .given i .fits) (λ s f a b. trapezoid-empty _ _ _ _ _ _ s f (omega arith)))
 
 cast-top : tie.Need-cast-top Inv-loop μ-loop
 cast-top c = omega arith
@@ -40,11 +42,17 @@ cast-band-end c = omega arith
 add-band-end : tie.Need-add-band-end Inv-loop μ-loop
 add-band-end c = omega arith
 
+sub-lines : tie.Need-sub-lines Inv-loop μ-loop
+sub-lines c = omega arith
+
+cast-mask-end : tie.Need-cast-mask-end Inv-loop μ-loop
+cast-mask-end c = omega arith
+
 add-mask-end : tie.Need-add-mask-end Inv-loop μ-loop
 add-mask-end c = omega arith
 
-sub-lines : tie.Need-sub-lines Inv-loop μ-loop
-sub-lines c = omega arith
+add-mask-end-2 : tie.Need-add-mask-end-2 Inv-loop μ-loop
+add-mask-end-2 c = omega arith
 
 add-b : tie.Need-add-b Inv-loop μ-loop
 add-b c = omega arith
@@ -69,11 +77,11 @@ cast-d c = omega (arith, c .before .before .before .loop .inv .since)
 edge-at-requires : tie.Need-edge-at-requires Inv-loop μ-loop
 edge-at-requires c κs = tt
 
--- the place on line s, in natural numbers, of an edge that goes from a to z
-abbrev place : tie.At-loop Inv-loop μ-loop → (a z : ℕ) → ℕ
+-- the place on line s, rounded up, of an edge that goes from a to z
+abbrev place : tie.At-loop Inv-loop μ-loop → (a z : ℕ) → ℤ
 place l a z =
     let e = l .before .before .before .before .before .before .before .before .args in
-    edgeDot a z (e .s-size - 1) (l .loop .s - e .s-min)
+    edgeAt a z (e .s-size - 1) (l .loop .s - e .s-min)
 
 from-place : (c : tie.After-edge-at Inv-loop μ-loop)
     → let l = c .before .before .before .before in
@@ -81,7 +89,7 @@ from-place : (c : tie.After-edge-at Inv-loop μ-loop)
     Place (c .edge-at .result) (place l (a .f-min) (a .f-min-last))
 from-place c =
     let l = c .before .before .before .before in
-    placed _ _ _ _ _ (c .edge-at .ok) (c .edge-at .ensures) (omega arith) (omega (arith, l .loop .inv .since))
+    placed _ _ _ _ _ (c .edge-at .ok) (c .edge-at .ensures) (omega (arith, l .loop .inv .since))
 
 cast-from : tie.Need-cast-from Inv-loop μ-loop
 cast-from c = from-place c .cast
@@ -95,7 +103,7 @@ to-place : (c : tie.After-edge-at2 Inv-loop μ-loop)
     Place (c .edge-at2 .result) (place l (a .f-min + a .f-size) (a .f-min-last + a .f-size-last))
 to-place c =
     let l = c .before .before .before .before .before in
-    placed _ _ _ _ _ (c .edge-at2 .ok) (c .edge-at2 .ensures) (omega arith) (omega (arith, l .loop .inv .since))
+    placed _ _ _ _ _ (c .edge-at2 .ok) (c .edge-at2 .ensures) (omega (arith, l .loop .inv .since))
 
 cast-to : tie.Need-cast-to Inv-loop μ-loop
 cast-to c = to-place c .cast
@@ -122,7 +130,7 @@ loop-again c =
     let e = x .before .before in
     let l = e .before .before .before .before .before in
     lined-next (l .loop .inv) _
-    (trapezoid-dots _ _ _ _ _ _ _ (omega arith) (lined-within (l .loop .inv) (omega arith)) (from-place (e .before) .is) (to-place e .is))
+    (trapezoid-dots _ _ _ _ _ _ _ (lined-within (l .loop .inv) (omega arith)) (from-place (e .before) .is) (to-place e .is))
     (x .stretch-in-row .ensures)
 
 same-length : tie.Need-same-length Inv-loop μ-loop
@@ -148,8 +156,10 @@ ink-trapezoid-spec =
     cast-top
     cast-band-end
     add-band-end
-    add-mask-end
     sub-lines
+    cast-mask-end
+    add-mask-end
+    add-mask-end-2
     add-b
     add-y
     loop-holds

@@ -3,7 +3,7 @@ use crate::{film_check, film_draw, Answer};
 
 #[test]
 fn starred_masks() {
-    // R, R0, T1, T2.
+    // R, R0, T1, T2, T3.
     assert_eq!(
         picture(4, 8, &[5, 1, 2, 1, 3], &NO_LOAD),
         [0, 0x7000, 0x7000, 0]
@@ -18,9 +18,10 @@ fn starred_masks() {
         picture(3, 8, &[6, 0, 3, 3, 1, 0, 1], &NO_LOAD),
         [0x1000, 0x2000, 0x8000]
     );
-    // T3.
-    let one = sheet(3, 8, 3, &[&[6, 0, 1, 3, 1, 0, 1]]);
-    assert_eq!(film_check(&one, &NO_LOAD), Answer::Refused(14, 16));
+    assert_eq!(
+        picture(2, 16, &[6, 0, 1, 1, 3, 9, 9], &NO_LOAD),
+        [0x7000, 0]
+    );
 }
 
 #[test]
@@ -49,8 +50,13 @@ fn listing() {
 
 #[test]
 fn trapezoids() {
-    // No rows; begun in a point; far past 65,535 on the film's right.
+    // No rows; one row, cut by the film's end, and of no dots; begun in a point; far past 65,535 on the film's right.
     assert_eq!(picture(2, 16, &[6, 0, 0, 1, 3, 1, 3], &NO_LOAD), [0, 0]);
+    assert_eq!(
+        picture(3, 16, &[6, 1, 1, 14, 0xFFFF, 0, 0], &NO_LOAD),
+        [0, 3, 0]
+    );
+    assert_eq!(picture(2, 16, &[6, 0, 1, 1, 0, 0, 16], &NO_LOAD), [0, 0]);
     assert_eq!(
         picture(3, 16, &[6, 0, 3, 2, 0, 0, 4], &NO_LOAD),
         [0, 0x6000, 0xF000]

@@ -96,12 +96,12 @@ fn in_one_command() {
     assert_eq!(commands(&[1, 0, 256], &[]), Answer::Refused(8, 16));
     assert_eq!(commands(&[1, 5, 1, 1, 5, 1], &[]), Answer::Done(1, 0));
     assert_eq!(commands(&[1, 5, 1, 1, 9, 0], &[]), Answer::Refused(8, 18));
-    // A cut command is 6 before 13 and 14, and a tile's mode comes before the load.
+    // A cut command is 6 before 13, and a tile's mode comes before the load.
     assert_eq!(commands(&[4, 2, 0], &[]), Answer::Refused(6, 14));
     assert_eq!(commands(&[4, 2, 9, 9], &[]), Answer::Refused(13, 15));
     assert_eq!(commands(&[6, 0, 1, 0, 0, 0], &[]), Answer::Refused(6, 14));
     let one_row = [2, 6, 0, 1, 0, 0, 0, 0];
-    assert_eq!(commands(&one_row, &[]), Answer::Refused(14, 17));
+    assert_eq!(commands(&one_row, &[]), Answer::Done(1, 0));
     // Groups and arrays of the sheet.
     assert_eq!(commands(&[7, 0], &[]), Answer::Refused(6, 14));
     assert_eq!(commands(&[7, 0, 0], &[]), Answer::Done(1, 0));
