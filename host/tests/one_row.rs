@@ -63,7 +63,7 @@ impl Row {
         match self {
             Row::First => top,
             Row::Last => end - 1,
-            Row::Before => top.saturating_sub(1),
+            Row::Before => top - 1,
             Row::After => end,
             Row::OffFilm => rng.pick(&[FILM_LINES, FILM_LINES + 1, 0x8000, 0xFFFF]),
         }
@@ -177,7 +177,9 @@ fn drawn(sheet: &[u8], load: &[u8], width: u16, band: u16) -> Result<(Answer, Ve
 
 fn round(rng: &mut Rng, colour: Colour, row: Row, dots: Dots) -> Result<(), String> {
     let width = rng.pick(&[1, 2, 15, 16, 17, 31, 33, 40]);
-    let band = rng.below(BANDS.into()) as u16;
+    // The first band has no row before it.
+    let first = u64::from(row == Row::Before);
+    let band = rng.between(first, u64::from(BANDS) - 1) as u16;
     let load = load(rng);
     let s_min = row.s_min(rng, band);
     let (f_min, f_size) = dots.range(rng, width);

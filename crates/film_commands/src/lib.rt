@@ -81,7 +81,7 @@ pub enum Colour {
 }
 
 // The refusals of one command, in their order: an unknown code; a command past its band; a priority over its limit or falling, a tile mode that is
-// not 0 or 1, a trapezoid of one row; a tile, group or array past the load, or a tile with a side of 0.
+// not 0 or 1; a tile, group or array past the load, or a tile with a side of 0.
 const UNKNOWN_CODE: u8 = 7;
 
 const CUT: u8 = 6;

@@ -1,11 +1,11 @@
--- Laws of signed differences, of the quotient rounded up and of the place of an edge. Assumes nothing.
+-- Laws of the quotient rounded up and of the place of an edge. Assumes nothing.
 use mathlib.Core.Path.{_≡_, refl, sym, ap, _∙_}
 use mathlib.Core.Bool.{true, false, false≢true}
 use Prim.Native.Nat.{ℕ, zero, suc, _+_, _-_, _*_, _/_, _%_, _^_, _≤_, _<_, zero-le}
 use native.Mathlib.Nat.{div-le-self, div-add-mod', mod-lt, mul-le-mul, add-mul, add-mul-div-right, div-eq-of-lt, div-le-of-le-mul, div-one, add-zero, mul-comm, le-refl}
 use native.Mathlib.Omega.{arith}
 use native.Mathlib.Decide.{decLe}
-use borrow.Author.Tests.{lt-ltb, ltb-false}
+use borrow.Author.Tests.{ltb-false}
 use lib.Dec.{T}
 use lib.IntN.{ℤ, pos, negsuc, negℤ, natAbs, _+ℤ_, _-ℤ_, _*ℤ_}
 use lib.Signed.{mag, nonNeg, quotZ, ltZ}
@@ -13,17 +13,10 @@ use mir.Syntax.{w64}
 use mir.Val.{SFits, Fits, toZ, ofZ}
 use mir.Facts.{toZ-ofZ}
 use Rattle.film_imaging.specs.Masks.{edge}
-use Rattle.film_imaging.proofs.Trapezoid.{pos-sub, edge-nat}
+use Rattle.film_imaging.proofs.Trapezoid.{diff-le, diff-lt, edge-nat}
 use Rattle.film_edges.specs.Edges.{ceilZ, edgeAt}
 
--- ---- differences, by the order of the two
-
-pub diff-le : (a b : ℕ) → b ≤ a → pos a -ℤ pos b ≡ pos (a - b)
-diff-le a b h = pos-sub a b h
-
-pub diff-lt : (a b : ℕ) → a < b → pos a -ℤ pos b ≡ negsuc (b - suc a)
-diff-lt a zero h = absurd (omega arith)
-diff-lt a (suc b) h = simp (lt-ltb a (suc b) h)
+-- ---- differences
 
 diff-past : (a g : ℕ) → pos a -ℤ pos (a + g) ≡ negℤ (pos g)
 diff-past a zero = diff-le a (a + 0) (omega arith) ∙ ap pos (omega arith)
@@ -87,7 +80,7 @@ ceil-down (negsuc v) n h g = refl
 -- ---- the place of an edge
 
 -- whole dots may be added before or after rounding
-pub ceil-add : (a n : ℕ) (x : ℤ) → 1 ≤ n → pos a +ℤ ceilZ x n ≡ ceilZ (pos (a * n) +ℤ x) n
+ceil-add : (a n : ℕ) (x : ℤ) → 1 ≤ n → pos a +ℤ ceilZ x n ≡ ceilZ (pos (a * n) +ℤ x) n
 unfolding ceilZ
 ceil-add a n (pos m) h =
     let t : a * n + m + (n - 1) ≡ m + (n - 1) + a * n = omega arith in

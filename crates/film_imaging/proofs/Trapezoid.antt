@@ -1,25 +1,28 @@
--- Laws of trapezoids: their edges in natural numbers, and those of no row and of one. Assumes nothing.
+-- Laws of trapezoids: signed differences, the edges in natural numbers, and trapezoids of no row and of one. Assumes nothing.
 use mathlib.Core.Path.{_≡_, refl, ap, _∙_, subst}
-use mathlib.Core.Bool.{Bool, true, false, _&&_, and-assoc}
+use mathlib.Core.Bool.{true, false, _&&_, and-assoc}
 use Prim.Native.Nat.{ℕ, zero, suc, _+_, _-_, _*_, _<_, _≤_}
 use native.Mathlib.Nat.{mul-one, add-mul, mul-add, suc-mul}
 use native.Mathlib.Omega.{arith}
 use native.Mathlib.Decide.{decLe}
 use borrow.Author.Tests.{lt-ltb, le-ltb}
 use lib.Dec.{leb, ltb}
-use lib.IntN.{ℤ, pos, negsuc, negℤ, _+ℤ_, _-ℤ_, _*ℤ_}
+use lib.IntN.{ℤ, pos, negsuc, _+ℤ_, _-ℤ_, _*ℤ_}
 use Rattle.film_commands.specs.Commands.{rectangle, trapezoid}
 use Rattle.film_imaging.specs.Masks.{within, edge, masked}
 use Rattle.film_imaging.proofs.Rectangle.{within-is, within-none}
 
+-- ---- differences, by the order of the two
+
+pub diff-le : (a b : ℕ) → b ≤ a → pos a -ℤ pos b ≡ pos (a - b)
+diff-le a zero h = ap pos (omega arith)
+diff-le a (suc b) h = rw (le-ltb a (suc b) h) refl
+
+pub diff-lt : (a b : ℕ) → a < b → pos a -ℤ pos b ≡ negsuc (b - suc a)
+diff-lt a zero h = absurd (omega arith)
+diff-lt a (suc b) h = simp (lt-ltb a (suc b) h)
+
 -- ---- edges in natural numbers
-
-pub pos-sub : (y x : ℕ) → x ≤ y → pos y +ℤ negℤ (pos x) ≡ pos (y - x)
-pos-sub y zero h = ap pos (omega arith)
-pos-sub y (suc x) h = rw (le-ltb y (suc x) h) refl
-
-pos-under : (y g : ℕ) → pos y +ℤ negℤ (pos (suc (y + g))) ≡ negsuc g
-pos-under y g = rw (lt-ltb y (suc (y + g)) (omega arith)) (ap negsuc (omega arith))
 
 -- n times the place of an edge, where n is not 0
 abbrev scaled : (a z n d : ℕ) → ℤ
@@ -29,16 +32,18 @@ scaled a z n d = pos (a * n) +ℤ (pos z -ℤ pos a) *ℤ pos d
 scaled-up : (a g d e : ℕ) → scaled a (a + g) (d + e) d ≡ pos (a * e + (a + g) * d)
 scaled-up a g d e =
     let m : a + g - a ≡ g = omega arith in
-    ap (λ (x : ℤ). pos (a * (d + e)) +ℤ x *ℤ pos d) (pos-sub (a + g) a (omega arith) ∙ ap pos m)
+    ap (λ (x : ℤ). pos (a * (d + e)) +ℤ x *ℤ pos d) (diff-le (a + g) a (omega arith) ∙ ap pos m)
     ∙ ap pos (rw (mul-add, add-mul) (omega arith))
 
 -- the edge leans toward lesser f, from a = z + g + 1
 scaled-down : (z g d e : ℕ) → scaled (suc (z + g)) z (d + e) d ≡ pos (suc (z + g) * e + z * d)
 scaled-down z g d e =
     let a = suc (z + g) in
+    let k : a - suc z ≡ g = omega arith in
     let l : suc g * d ≤ a * (d + e) = simp (mul-add, suc-mul, add-mul) (omega arith) in
     let m : a * (d + e) - suc g * d ≡ a * e + z * d = simp (mul-add, suc-mul, add-mul) (omega arith) in
-    ap (λ (x : ℤ). pos (a * (d + e)) +ℤ x *ℤ pos d) (pos-under z g) ∙ pos-sub (a * (d + e)) (suc g * d) l ∙ ap pos m
+    ap (λ (x : ℤ). pos (a * (d + e)) +ℤ x *ℤ pos d) (diff-lt z a (omega arith) ∙ ap negsuc k)
+    ∙ diff-le (a * (d + e)) (suc g * d) l ∙ ap pos m
 
 scaled-nat : (a z n d : ℕ) → d ≤ n → scaled a z n d ≡ pos (a * (n - d) + z * d)
 scaled-nat a z n d h = subst (λ (k : ℕ). scaled a z k d ≡ pos (a * (n - d) + z * d)) n-is (go (decLe a z))
@@ -73,26 +78,17 @@ module _ (sMin sSize fMin fSize fMinLast fSizeLast s f : ℕ) where
   unfolding masked
   trapezoid-off h = rw h
 
-  -- of two rows or more, in natural numbers
-  pub trapezoid-nat : 1 < sSize
+  -- a line that it has, where it has two at least, in natural numbers
+  pub trapezoid-nat : 1 < sSize → within sMin sSize s ≡ true
       → masked (trapezoid sMin sSize fMin fSize fMinLast fSizeLast) s f
-      ≡ (within sMin sSize s
-      && leb (fMin * (sSize - 1 - (s - sMin)) + fMinLast * (s - sMin)) (f * (sSize - 1))
+      ≡ (leb (fMin * (sSize - 1 - (s - sMin)) + fMinLast * (s - sMin)) (f * (sSize - 1))
       && ltb (f * (sSize - 1)) ((fMin + fSize) * (sSize - 1 - (s - sMin)) + (fMinLast + fSizeLast) * (s - sMin)))
   unfolding masked
-  trapezoid-nat some = go (within sMin sSize s) refl
-    where
-      go : (t : Bool) → within sMin sSize s ≡ t
-          → masked (trapezoid sMin sSize fMin fSize fMinLast fSizeLast) s f
-          ≡ (t
-          && leb (fMin * (sSize - 1 - (s - sMin)) + fMinLast * (s - sMin)) (f * (sSize - 1))
-          && ltb (f * (sSize - 1)) ((fMin + fSize) * (sSize - 1 - (s - sMin)) + (fMinLast + fSizeLast) * (s - sMin)))
-      go false h = trapezoid-off h
-      go true h =
-          let p = within-is sMin sSize s .holds h in
-          let n : 0 < sSize - 1 = omega arith in
-          let le : s - sMin ≤ sSize - 1 = omega arith in
-          rw (h, edge-nat fMin fMinLast (sSize - 1) (s - sMin) n le, edge-nat (fMin + fSize) (fMinLast + fSizeLast) (sSize - 1) (s - sMin) n le) refl
+  trapezoid-nat some h =
+      let p = within-is sMin sSize s .holds h in
+      let n : 0 < sSize - 1 = omega arith in
+      let le : s - sMin ≤ sSize - 1 = omega arith in
+      rw (h, edge-nat fMin fMinLast (sSize - 1) (s - sMin) n le, edge-nat (fMin + fSize) (fMinLast + fSizeLast) (sSize - 1) (s - sMin) n le) refl
 
   pub trapezoid-empty : sSize ≡ 0 → masked (trapezoid sMin sSize fMin fSize fMinLast fSizeLast) s f ≡ false
   trapezoid-empty h = trapezoid-off (rw h (within-none sMin s))

@@ -50,7 +50,8 @@ fn listing() {
 
 #[test]
 fn trapezoids() {
-    // No rows; one row, cut by the film's end, and of no dots; begun in a point; far past 65,535 on the film's right.
+    // No rows; one row, cut by the film's end, and of no dots; begun in a point; far past 65,535 on
+    // the film's right.
     assert_eq!(picture(2, 16, &[6, 0, 0, 1, 3, 1, 3], &NO_LOAD), [0, 0]);
     assert_eq!(
         picture(3, 16, &[6, 1, 1, 14, 0xFFFF, 0, 0], &NO_LOAD),
