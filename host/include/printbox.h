@@ -51,6 +51,7 @@
  *   11  no such page or band: 0
  *   12  buffer shorter than the band's rows: 0
  *   13  tile mode not 0 or 1: the mode
+ *   15  a padding bit set in a sample array or a tile: the code word
  *   21  the job's head differs: the first byte that does
  *   22  a page head with other fixed bytes, or width, height or toner outside its range: its first
  *       byte; 0 from the writer
@@ -117,7 +118,7 @@ extern "C" {
 /*
  * Checks a sheet with its load.
  * Done: the number of pages.
- * Refusals: 1 to 10, 13.
+ * Refusals: 1 to 10, 13, 15.
  */
 void film_check(const uint8_t *sheet, size_t sheet_length,
                 const uint8_t *load, size_t load_length,
@@ -128,7 +129,7 @@ void film_check(const uint8_t *sheet, size_t sheet_length,
  * what the buffer held does not matter. On a sheet that the check passes, no page and band that it
  * has are refused to a buffer of at least the band's bytes.
  * Done: a is the number of rows, b the number of one bits in them.
- * Refusals: 1 to 9, 11 to 13.
+ * Refusals: 1 to 9, 11 to 13, 15.
  */
 void film_draw(const uint8_t *sheet, size_t sheet_length,
                const uint8_t *load, size_t load_length,

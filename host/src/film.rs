@@ -47,7 +47,7 @@ pub struct Drawn {
 ///
 /// # Errors
 ///
-/// Numbers 1 to 10 and 13, each for the first fault that the order of the requirements meets.
+/// Numbers 1 to 10, 13 and 15, each for the first fault that the order of the requirements meets.
 pub fn check(sheet: &[u8], load: &[u8]) -> Result<usize, Refusal> {
     ffi::film_check(sheet, load).value()
 }
@@ -60,7 +60,7 @@ pub fn check(sheet: &[u8], load: &[u8]) -> Result<usize, Refusal> {
 ///
 /// # Errors
 ///
-/// Numbers 1 to 9 and 13; 11 where the sheet has no such page or band; 12 where the buffer is
+/// Numbers 1 to 9, 13 and 15; 11 where the sheet has no such page or band; 12 where the buffer is
 /// shorter than the band's rows.
 pub fn draw(
     sheet: &[u8],

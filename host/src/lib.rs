@@ -34,7 +34,8 @@ pub const FILE_BYTES: usize = 16_777_216;
 /// ```
 #[derive(Clone, Copy, Debug, PartialEq, Eq, Hash)]
 pub struct Refusal {
-    /// The number of the refusal: 1 to 13 for films, 1 and 21 to 27 for jobs, 31 to 36 for the strip printer.
+    /// The number of the refusal: 1 to 13 and 15 for films, 1 and 21 to 27 for jobs, 31 to 36 for
+    /// the strip printer.
     pub number: u8,
     /// Where the fault is: a word of the sheet or a byte of the job, counted from 0; 0 where the
     /// number has no place.

@@ -249,7 +249,7 @@ fn library_against_reference() {
         return;
     }
     assert!(table.total() >= 1_000_000, "{} inputs", table.total());
-    for number in (1..=13).chain(21..=27) {
+    for number in (1..=13).chain([15]).chain(21..=27) {
         assert!(
             table.refused(number) >= 100,
             "number {number}: {}",

@@ -3,7 +3,7 @@
 
 mod common;
 
-use common::cases::{case, Case, FILM, GDI, MODEL, P1, P7};
+use common::cases::{case, Case, FILM, GDI, MODEL, P1, P5, P7};
 use common::fenced::{FencedEnd, FencedStart};
 use std::collections::BTreeMap;
 
@@ -101,6 +101,12 @@ fn p1() {
 fn p7() {
     let counts = [("film_check", 122), ("film_draw", 600)];
     run("p7.txt", P7, &counts);
+}
+
+#[test]
+fn p5() {
+    let counts = [("film_check", 122), ("film_draw", 600)];
+    run("p5.txt", P5, &counts);
 }
 
 /// A line that is damaged is a fault and never passes for a case.

@@ -7,6 +7,7 @@ use Rattle.refusal.specs.Tables.{first}
 use Rattle.film_words.specs.Words.{words, bytesOf}
 use Rattle.film_words.specs.Load.{loadCount, loadWords}
 use Rattle.film_words.specs.Arrays.{arrayExtent}
+use Rattle.film_words.specs.Padding.{linesPaddingSet, paddingSet}
 use Rattle.film_words.specs.Groups.{linesExtent, groupExtent}
 use Rattle.film_commands.specs.Refusals.{commandTable}
 use Rattle.film_commands.specs.Commands.{command, decoded}
@@ -68,6 +69,7 @@ pub record CheckCases : Type 0 where
   pub number-9 : oneBand (4 ∷ 4 ∷ 0 ∷ 0 ∷ 0 ∷ []) ≡ refused 9 14
   pub number-10 : oneBand (1 ∷ 2 ∷ 7 ∷ []) ≡ refused 10 15
   pub number-13 : oneBand (4 ∷ 4 ∷ 2 ∷ 0 ∷ 0 ∷ []) ≡ refused 13 15
+  pub number-15 : oneBand (6 ∷ 9 ∷ 0 ∷ 0 ∷ 1 ∷ 4 ∷ 0xF001 ∷ []) ≡ refused 15 14
   pub one-row-trapezoid : oneBand (7 ∷ 6 ∷ 0 ∷ 1 ∷ 0 ∷ 2 ∷ 0 ∷ 2 ∷ []) ≡ given 1
   -- page 0's last band has a fault, and page 1 is missing: the first fault met is given
   pub first-fault : checked (start 4 4 ++ (2 ∷ 1 ∷ 1 ∷ 99 ∷ [])) (0 ∷ 0 ∷ []) ≡ refused 7 14
@@ -75,7 +77,14 @@ pub record CheckCases : Type 0 where
   -- runs from a load of 3 words, at address 0 and one too far
   pub from-load : checked (start 4 4 ++ (1 ∷ 1 ∷ 4 ∷ 8 ∷ 0 ∷ 0 ∷ 2 ∷ [])) (3 ∷ 0 ∷ 1 ∷ 4 ∷ 0x8002 ∷ []) ≡ given 1
   pub past-load : checked (start 4 4 ++ (1 ∷ 1 ∷ 4 ∷ 8 ∷ 1 ∷ 0 ∷ 2 ∷ [])) (3 ∷ 0 ∷ 1 ∷ 4 ∷ 0x8002 ∷ []) ≡ refused 9 14
+  -- a tile that nothing is painted with; two arrays in the load, the second with a padding bit set: named alone, the first passes
+  pub tile-padding : checked (start 4 4 ++ (1 ∷ 1 ∷ 4 ∷ 4 ∷ 0 ∷ 0 ∷ 0 ∷ [])) (6 ∷ 0 ∷ 0 ∷ 0 ∷ 0 ∷ 1 ∷ 4 ∷ 0xF001 ∷ []) ≡ refused 15 14
+  pub padding-not-named : checked (start 4 4 ++ (1 ∷ 1 ∷ 5 ∷ 10 ∷ 0 ∷ 0 ∷ 0 ∷ 0 ∷ [])) (6 ∷ 0 ∷ 1 ∷ 4 ∷ 0xF000 ∷ 1 ∷ 4 ∷ 0xF001 ∷ []) ≡ given 1
+  pub padding-named : checked (start 4 4 ++ (1 ∷ 1 ∷ 5 ∷ 10 ∷ 3 ∷ 0 ∷ 0 ∷ 0 ∷ [])) (6 ∷ 0 ∷ 1 ∷ 4 ∷ 0xF000 ∷ 1 ∷ 4 ∷ 0xF001 ∷ []) ≡ refused 15 14
+  -- two arrays that share words of the load: what are dots of the one is padding of the other
+  pub dots-of-one : checked (start 4 4 ++ (1 ∷ 1 ∷ 5 ∷ 10 ∷ 0 ∷ 0 ∷ 0 ∷ 0 ∷ [])) (5 ∷ 0 ∷ 3 ∷ 16 ∷ 1 ∷ 4 ∷ 0xF001 ∷ []) ≡ given 1
+  pub padding-of-other : checked (start 4 4 ++ (1 ∷ 1 ∷ 5 ∷ 10 ∷ 2 ∷ 0 ∷ 0 ∷ 0 ∷ [])) (5 ∷ 0 ∷ 3 ∷ 16 ∷ 1 ∷ 4 ∷ 0xF001 ∷ []) ≡ refused 15 14
 
 pub check-cases : CheckCases
-unfolding checkAnswer checkLayout heraldTest first lengthTable passwordTable sizeTable loadTable pageTable heraldTable words bytesOf loadCount loadWords bandCount bandsThen pagesFrom readBand readFrom command commandTable decoded arrayExtent linesExtent groupExtent
+unfolding checkAnswer checkLayout heraldTest first lengthTable passwordTable sizeTable loadTable pageTable heraldTable words bytesOf loadCount loadWords bandCount bandsThen pagesFrom readBand readFrom command commandTable decoded arrayExtent linesPaddingSet paddingSet linesExtent groupExtent
 check-cases = search

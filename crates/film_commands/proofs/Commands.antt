@@ -16,14 +16,16 @@ use Rattle.film_words.specs.Words.{words, at, longAt}
 use Rattle.film_words.specs.Parts.{partOf}
 use Rattle.film_words.specs.Load.{loadWords}
 use Rattle.film_words.specs.Arrays.{arrayExtent, array-cases}
+use Rattle.film_words.specs.Padding.{paddingSet}
 use Rattle.film_words.specs.Groups.{groupExtent, group-cases}
 use Rattle.film_words.proofs.Words.{length-words, at-drop}
 use Rattle.film_words.proofs.Arrays.{array-fits}
+use Rattle.film_words.proofs.Padding.{padding-alone}
 use Rattle.film_words.proofs.Groups.{group-fits}
 use Rattle.film_words.proofs.Parts.{part-length, part-first, part-taken, part-within}
 use Rattle.film_words.proofs.Load.{load-from}
-use Rattle.film_commands.specs.Refusals.{argumentWords, past, emptyTile, commandTable}
-use Rattle.film_commands.specs.Commands.{Whole, Taken, taken, nowhere, inBand, inLoad, priority, ink, clear, setTile, paint, rectangle, trapezoid, runs, samples, takenWords, decoded, command, commandIn}
+use Rattle.film_commands.specs.Refusals.{argumentWords, past, takenWords, arrayAlone, emptyTile, commandTable}
+use Rattle.film_commands.specs.Commands.{Whole, Taken, taken, nowhere, inBand, inLoad, priority, ink, clear, setTile, paint, rectangle, trapezoid, runs, samples, decoded, command, commandIn}
 
 -- ---- the words after the code word
 
@@ -91,9 +93,22 @@ groups = record { empty = group-cases .no-size; fits = group-fits }
 arrays : Measure arrayExtent
 arrays = record { empty = array-cases .no-sizes; fits = λ l n e. array-fits l n e .1 }
 
--- what is answered after k argument words for what has extent o: 6 where the words are too few, the number where it runs past the end
-abbrev measured : (k number : ℕ) (ws : List ℕ) → Option ℕ → Whole → Taken
-measured k number ws o w = andThen (cond (ltb (length ws) k) (refused 6 0) (cond (past o) (refused number 0) fine)) (λ u. given w)
+-- what is answered after k argument words for what has extent o: 6 where the words are too few, the number where it runs past the end, else by
+-- the verdict v on it
+abbrev measured : (k number : ℕ) (ws : List ℕ) → Option ℕ → Verdict → Whole → Taken
+measured k number ws o v w = andThen (cond (ltb (length ws) k) (refused 6 0) (cond (past o) (refused number 0) v)) (λ u. given w)
+
+-- the verdict on an array, by whether a bit is set in its padding
+abbrev padded : Bool → Verdict
+padded t = cond t (refused 15 0) fine
+
+padded-is : (t : Bool) (w : Whole) → andThen (padded t) (λ u. given w) ≡ cond t (refused 15 0) (given w)
+padded-is true w = refl
+padded-is false w = refl
+
+-- an array that is there, by itself and with the words after it
+alone-is : (l : List ℕ) (n : ℕ) (t : Bool) → arrayExtent l ≡ some n → paddingSet l ≡ t → paddingSet (arrayAlone l) ≡ t
+alone-is l n t e d = ap (λ (o : Option ℕ). paddingSet (take (takenWords o) l)) e ∙ padding-alone l n e ∙ d
 
 module _ {Extent : List ℕ → Option ℕ} (measure : Measure Extent) where
   -- where something stands after k words, there are k words
@@ -112,16 +127,17 @@ module _ {Extent : List ℕ → Option ℕ} (measure : Measure Extent) where
   room file q n e = omega (arith, measure .fits (drop q (words file)) n e, length-drop q (words file), length-words file)
 
   -- after k words of the sheet it runs past the band's end
-  sheet-past : (k : ℕ) (ws : List ℕ) (w : Whole) → Extent (drop k ws) ≡ none → measured k 6 ws (Extent (drop k ws)) w ≡ refused 6 0
-  sheet-past k ws w e = rw e (go (ltb (length ws) k) (refused 6 0))
+  sheet-past : (k : ℕ) (ws : List ℕ) (v : Verdict) (w : Whole) → Extent (drop k ws) ≡ none → measured k 6 ws (Extent (drop k ws)) v w ≡ refused 6 0
+  sheet-past k ws v w e = rw e (go (ltb (length ws) k) (refused 6 0))
     where
       go : (b : Bool) (v : Verdict) → andThen (cond b v v) (λ u. given w) ≡ andThen v (λ u. given w)
       go true v = refl
       go false v = refl
 
   -- it is there
-  sheet-there : (k : ℕ) (ws : List ℕ) (w : Whole) (n : ℕ) → Extent (drop k ws) ≡ some n → measured k 6 ws (Extent (drop k ws)) w ≡ given w
-  sheet-there k ws w n e = rw (le-ltb (length ws) k (reached k ws n e), e) refl
+  sheet-there : (k : ℕ) (ws : List ℕ) (v : Verdict) (w : Whole) (n : ℕ) → Extent (drop k ws) ≡ some n
+      → measured k 6 ws (Extent (drop k ws)) v w ≡ andThen v (λ u. given w)
+  sheet-there k ws v w n e = rw (le-ltb (length ws) k (reached k ws n e), e) refl
 
   -- its words are those of a part of the sheet, where `args` is the part from place b up to e
   sheet-part : (sheet args : List ℕ) (b e k q n : ℕ) → args ≡ partOf sheet b e → e ≤ length (words sheet) → b + k ≡ q
@@ -138,11 +154,12 @@ module _ {Extent : List ℕ → Option ℕ} (measure : Measure Extent) where
       omega (arith, reached k (words args) n x, measure .fits (drop k (words args)) n x, length-drop k (words args))
 
   -- at address v of the load: it is there, or it runs past the load's end
-  load-measured : (k : ℕ) (load ws : List ℕ) (v a : ℕ) (w : Whole) (o : Option ℕ) → k ≤ length ws → v ≡ a → Extent (drop (2 + v) (words load)) ≡ o
-      → measured k 9 ws (Extent (drop a (loadWords load))) w ≡ cond (past o) (refused 9 0) (given w)
-  load-measured k load ws v a w o l h e = rw (le-ltb (length ws) k l, sym (ap Extent (load-from load v a h)) ∙ e) (go (past o))
+  load-measured : (k : ℕ) (load ws : List ℕ) (v a : ℕ) (t : Verdict) (w : Whole) (o : Option ℕ) → k ≤ length ws → v ≡ a
+      → Extent (drop (2 + v) (words load)) ≡ o
+      → measured k 9 ws (Extent (drop a (loadWords load))) t w ≡ cond (past o) (refused 9 0) (andThen t (λ u. given w))
+  load-measured k load ws v a t w o l h e = rw (le-ltb (length ws) k l, sym (ap Extent (load-from load v a h)) ∙ e) (go (past o))
     where
-      go : (b : Bool) → andThen (cond b (refused 9 0) fine) (λ u. given w) ≡ cond b (refused 9 0) (given w)
+      go : (b : Bool) → andThen (cond b (refused 9 0) t) (λ u. given w) ≡ cond b (refused 9 0) (andThen t (λ u. given w))
       go true = refl
       go false = refl
 
@@ -163,11 +180,11 @@ array-room = room arrays
 module _ (load ws : List ℕ) (least : ℕ) where
   pub runs-past : groupExtent (drop 1 ws) ≡ none → command load least 7 ws ≡ refused 6 0
   unfolding command commandTable first
-  runs-past x = sheet-past groups 1 ws _ x
+  runs-past x = sheet-past groups 1 ws _ _ x
 
   pub samples-past : arrayExtent (drop 2 ws) ≡ none → command load least 9 ws ≡ refused 6 0
   unfolding command commandTable first
-  samples-past x = sheet-past arrays 2 ws _ x
+  samples-past x = sheet-past arrays 2 ws _ _ x
 
 -- `args` are the words after the code word at place p, up to the band's end e
 module _ (sheet args : List ℕ) (p e : ℕ) (h : p < e) (l : e ≤ length (words sheet)) (a : args ≡ partOf sheet (p + 1) e) where
@@ -176,18 +193,21 @@ module _ (sheet args : List ℕ) (p e : ℕ) (h : p < e) (l : e ≤ length (word
   unfolding command commandTable first decoded
   runs-there load least n m x =
       let part = sheet-part groups sheet args (p + 1) e 1 (p + 2) n a l (omega arith) x in
-      sheet-there groups 1 (words args) _ n x ∙ rw (m, part, x) refl
+      sheet-there groups 1 (words args) _ _ n x ∙ rw (m, part, x) refl
 
   -- the group ends in the band
   pub runs-end : (n : ℕ) → groupExtent (drop 1 (words args)) ≡ some n → p + 2 + n ≤ e
   runs-end n x = sheet-end groups sheet args (p + 1) e 1 (p + 2) n a (omega arith) l (omega arith) x
 
-  pub samples-there : (load : List ℕ) (least : ℕ) {sMin fMin : ℕ} (n : ℕ) → sMin ≡ at (words args) 0 → fMin ≡ at (words args) 1 → arrayExtent (drop 2 (words args)) ≡ some n
-      → command load least 9 (words args) ≡ taken (paint (samples sMin fMin (words (partOf sheet (p + 3) (p + 3 + n))))) (inBand 3 n) (2 + n)
+  -- the array is refused or taken, by its padding
+  pub samples-there : (load : List ℕ) (least : ℕ) {sMin fMin : ℕ} (n : ℕ) {t : Bool} → sMin ≡ at (words args) 0 → fMin ≡ at (words args) 1
+      → arrayExtent (drop 2 (words args)) ≡ some n → paddingSet (drop 2 (words args)) ≡ t
+      → command load least 9 (words args)
+      ≡ cond t (refused 15 0) (taken (paint (samples sMin fMin (words (partOf sheet (p + 3) (p + 3 + n))))) (inBand 3 n) (2 + n))
   unfolding command commandTable first decoded
-  samples-there load least n m f x =
+  samples-there load least n {t} m f x d =
       let part = sheet-part arrays sheet args (p + 1) e 2 (p + 3) n a l (omega arith) x in
-      sheet-there arrays 2 (words args) _ n x ∙ rw (m, f, part, x) refl
+      sheet-there arrays 2 (words args) _ _ n x ∙ rw (alone-is (drop 2 (words args)) n t x d, m, f, part, x) (padded-is t _)
 
   -- the array ends in the band
   pub samples-end : (n : ℕ) → arrayExtent (drop 2 (words args)) ≡ some n → p + 3 + n ≤ e
@@ -198,26 +218,31 @@ module _ (sheet args : List ℕ) (p e : ℕ) (h : p < e) (l : e ≤ length (word
 module _ (load ws : List ℕ) (least v : ℕ) (h : v ≡ longAt ws 0) where
   pub load-runs-past : 3 ≤ length ws → groupExtent (drop (2 + v) (words load)) ≡ none → command (loadWords load) least 8 ws ≡ refused 9 0
   unfolding command commandTable first
-  load-runs-past l x = load-measured groups 3 load ws v (longAt ws 0) _ none l h x
+  load-runs-past l x = load-measured groups 3 load ws v (longAt ws 0) _ _ none l h x
 
   pub load-runs-there : {sMin : ℕ} (n : ℕ) → sMin ≡ at ws 2 → 3 ≤ length ws → groupExtent (drop (2 + v) (words load)) ≡ some n
       → command (loadWords load) least 8 ws ≡ taken (paint (runs sMin (words (partOf load (2 + v) (2 + v + n))))) (inLoad v n) 3
   unfolding command commandTable first decoded
   load-runs-there n m l x =
       let part = load-part groups load v (longAt ws 0) n h x in
-      load-measured groups 3 load ws v (longAt ws 0) _ (some n) l h x ∙ rw (m, part, sym (ap groupExtent (load-from load v _ h)) ∙ x, h) refl
+      load-measured groups 3 load ws v (longAt ws 0) _ _ (some n) l h x ∙ rw (m, part, sym (ap groupExtent (load-from load v _ h)) ∙ x, h) refl
 
   pub load-samples-past : 4 ≤ length ws → arrayExtent (drop (2 + v) (words load)) ≡ none → command (loadWords load) least 10 ws ≡ refused 9 0
   unfolding command commandTable first
-  load-samples-past l x = load-measured arrays 4 load ws v (longAt ws 0) _ none l h x
+  load-samples-past l x = load-measured arrays 4 load ws v (longAt ws 0) _ _ none l h x
 
-  pub load-samples-there : {sMin fMin : ℕ} (n : ℕ) → sMin ≡ at ws 2 → fMin ≡ at ws 3 → 4 ≤ length ws
-      → arrayExtent (drop (2 + v) (words load)) ≡ some n
-      → command (loadWords load) least 10 ws ≡ taken (paint (samples sMin fMin (words (partOf load (2 + v) (2 + v + n))))) (inLoad v n) 4
+  -- the array is refused or taken, by its padding
+  pub load-samples-there : {sMin fMin : ℕ} (n : ℕ) {t : Bool} → sMin ≡ at ws 2 → fMin ≡ at ws 3 → 4 ≤ length ws
+      → arrayExtent (drop (2 + v) (words load)) ≡ some n → paddingSet (drop (2 + v) (words load)) ≡ t
+      → command (loadWords load) least 10 ws
+      ≡ cond t (refused 15 0) (taken (paint (samples sMin fMin (words (partOf load (2 + v) (2 + v + n))))) (inLoad v n) 4)
   unfolding command commandTable first decoded
-  load-samples-there n m f l x =
+  load-samples-there n {t} m f l x d =
       let part = load-part arrays load v (longAt ws 0) n h x in
-      load-measured arrays 4 load ws v (longAt ws 0) _ (some n) l h x ∙ rw (m, f, part, sym (ap arrayExtent (load-from load v _ h)) ∙ x, h) refl
+      let from = load-from load v (longAt ws 0) h in
+      let x′ = sym (ap arrayExtent from) ∙ x in
+      load-measured arrays 4 load ws v (longAt ws 0) _ _ (some n) l h x
+      ∙ rw (alone-is (drop (longAt ws 0) (loadWords load)) n t x′ (sym (ap paddingSet from) ∙ d), m, f, part, x′, h) (padded-is t _)
 
 -- ---- 4, in the load
 
@@ -240,7 +265,9 @@ module _ (load ws : List ℕ) (least v mode : ℕ) (h : v ≡ longAt ws 1) (l : 
   -- after the tests on its words, the tile's array is measured
   tile-measured : (x : Option ℕ) → arrayExtent (drop (2 + v + 3) (words load)) ≡ x
       → command (loadWords load) least 4 ws
-      ≡ andThen (cond (past x) (refused 9 0) (cond (emptyTile (tileAt load ws)) (refused 9 0) fine))
+      ≡ andThen
+      (cond (past x) (refused 9 0)
+      (cond (emptyTile (tileAt load ws)) (refused 9 0) (padded (paddingSet (take (takenWords x) (drop 3 (tileAt load ws)))))))
       (λ u.
       taken (setTile (eqb (at ws 0) 1) (longAt ws 1) (take (3 + takenWords x) (tileAt load ws))) (inLoad (longAt ws 1) (3 + takenWords x)) 3)
   unfolding command commandTable first decoded
@@ -268,14 +295,16 @@ module _ (load ws : List ℕ) (least v mode : ℕ) (h : v ≡ longAt ws 1) (l : 
         let r : 3 + n ≤ length (drop (2 + v) (words load)) = omega (arith, length-drop (2 + v) (words load), length-drop (2 + v + 3) (words load)) in
         part-taken load (2 + v) (3 + n) r ∙ ap (take (3 + n)) (load-from load v _ h)
 
-    -- it has both; its address is its place in the load file less the two words of the count
-    pub tile-there : {dots : ℕ} → (lines ≡ 0 → ⊥) → dots ≡ at (words load) (2 + v + 4) → (dots ≡ 0 → ⊥)
+    -- it has both: it is refused or taken, by its padding. Its address is its place in the load file less the two words of the count
+    pub tile-there : {dots : ℕ} {t : Bool} → (lines ≡ 0 → ⊥) → dots ≡ at (words load) (2 + v + 4) → (dots ≡ 0 → ⊥)
+        → paddingSet (drop (2 + v + 3) (words load)) ≡ t
         → command (loadWords load) least 4 ws
-        ≡ taken (setTile (eqb mode 1) (2 + v - 2) (words (partOf load (2 + v) (2 + v + (3 + n))))) (inLoad v (3 + n)) 3
-    tile-there s d t =
+        ≡ cond t (refused 15 0) (taken (setTile (eqb mode 1) (2 + v - 2) (words (partOf load (2 + v) (2 + v + (3 + n))))) (inLoad v (3 + n)) 3)
+    tile-there {dots} {t} s d z q =
         let address : 2 + v - 2 ≡ v = omega arith in
+        let alone = ap (λ (r : List ℕ). paddingSet (take n r)) (sym (tile-from 3)) ∙ padding-alone (drop (2 + v + 3) (words load)) n x ∙ q in
         tile-measured (some n) x
-        ∙ rw (ne-eqb _ 0 (λ y. s (w ∙ tile-word 3 ∙ y)), ne-eqb _ 0 (λ y. t (d ∙ tile-word 4 ∙ y)), ← m, tile-part, address, h) refl
+        ∙ rw (ne-eqb _ 0 (λ y. s (w ∙ tile-word 3 ∙ y)), ne-eqb _ 0 (λ y. z (d ∙ tile-word 4 ∙ y)), alone, ← m, tile-part, address, h) (padded-is t _)
 
 -- ---- the command at place p of a band that ends before place e
 

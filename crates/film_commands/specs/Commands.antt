@@ -2,7 +2,6 @@
 use mathlib.Core.Path.{_≡_}
 use mathlib.Core.Bool.{Bool, true, false, cond}
 use mathlib.Core.List.{List, [], _∷_}
-use mathlib.Core.Option.{Option, none, some}
 use Prim.Native.Nat.{ℕ, _+_}
 use lib.Dec.{eqb}
 use lib.ListN.{take, drop}
@@ -10,8 +9,9 @@ use Rattle.refusal.specs.Answers.{Answer, given, refused, andThen}
 use Rattle.refusal.specs.Tables.{first}
 use Rattle.film_words.specs.Words.{at, longAt}
 use Rattle.film_words.specs.Arrays.{arrayExtent}
+use Rattle.film_words.specs.Padding.{linesPaddingSet, paddingSet}
 use Rattle.film_words.specs.Groups.{linesExtent, groupExtent}
-use Rattle.film_commands.specs.Refusals.{commandTable}
+use Rattle.film_commands.specs.Refusals.{takenWords, commandTable}
 
 -- ---- what a command is
 
@@ -53,11 +53,6 @@ abbrev pub taken : Command → Source → (more : ℕ) → Taken
 taken c src n = given (whole c src n)
 
 -- ---- what a command is, where nothing is refused, by the words after its code word, `args`, and the load's words after its count, `load`
-
--- the words of an array or a group that is all there
-abbrev pub takenWords : Option ℕ → ℕ
-takenWords none = 0
-takenWords (some n) = n
 
 -- 1: long
 abbrev pub priorityFrom : List ℕ → Whole
@@ -160,8 +155,13 @@ pub record CommandCases : Type 0 where
   pub tile-no-dots : commandIn (7 ∷ 8 ∷ 9 ∷ 1 ∷ 0 ∷ 99 ∷ []) 0 (4 ∷ 0 ∷ 0 ∷ 0 ∷ []) ≡ refused 9 0
   -- a tile of phase 0 at 0, 0, and one whose first three words are not its sizes; at address 1
   pub tile-at-zero : commandIn (99 ∷ 0 ∷ 0 ∷ 0 ∷ 1 ∷ 4 ∷ 0xA000 ∷ []) 0 (4 ∷ 0 ∷ 1 ∷ 0 ∷ []) ≡ taken (setTile false 1 (0 ∷ 0 ∷ 0 ∷ 1 ∷ 4 ∷ 0xA000 ∷ [])) (inLoad 1 6) 3
-  pub tile-sizes : commandIn (99 ∷ 7 ∷ 8 ∷ 9 ∷ 2 ∷ 17 ∷ 1 ∷ 2 ∷ 3 ∷ 4 ∷ 99 ∷ []) 0 (4 ∷ 1 ∷ 1 ∷ 0 ∷ []) ≡ taken (setTile true 1 (7 ∷ 8 ∷ 9 ∷ 2 ∷ 17 ∷ 1 ∷ 2 ∷ 3 ∷ 4 ∷ [])) (inLoad 1 9) 3
-  pub tile-a-word-short : commandIn (7 ∷ 8 ∷ 9 ∷ 2 ∷ 17 ∷ 1 ∷ 2 ∷ 3 ∷ []) 0 (4 ∷ 1 ∷ 0 ∷ 0 ∷ []) ≡ refused 9 0
+  pub tile-sizes : commandIn (99 ∷ 7 ∷ 8 ∷ 9 ∷ 2 ∷ 17 ∷ 1 ∷ 0 ∷ 3 ∷ 0x8000 ∷ 99 ∷ []) 0 (4 ∷ 1 ∷ 1 ∷ 0 ∷ []) ≡ taken (setTile true 1 (7 ∷ 8 ∷ 9 ∷ 2 ∷ 17 ∷ 1 ∷ 0 ∷ 3 ∷ 0x8000 ∷ [])) (inLoad 1 9) 3
+  pub tile-a-word-short : commandIn (7 ∷ 8 ∷ 9 ∷ 2 ∷ 17 ∷ 1 ∷ 0 ∷ 3 ∷ []) 0 (4 ∷ 1 ∷ 0 ∷ 0 ∷ []) ≡ refused 9 0
+  -- a padding bit is set: in the last line; beside a bad mode, in the line that is there of a tile past the load, in a word after the tile
+  pub tile-padding : commandIn (99 ∷ 7 ∷ 8 ∷ 9 ∷ 2 ∷ 17 ∷ 1 ∷ 0 ∷ 3 ∷ 0x8001 ∷ 99 ∷ []) 0 (4 ∷ 1 ∷ 1 ∷ 0 ∷ []) ≡ refused 15 0
+  pub tile-mode-before-padding : commandIn (7 ∷ 8 ∷ 9 ∷ 1 ∷ 4 ∷ 0xA001 ∷ []) 0 (4 ∷ 2 ∷ 0 ∷ 0 ∷ []) ≡ refused 13 1
+  pub tile-past-before-padding : commandIn (7 ∷ 8 ∷ 9 ∷ 2 ∷ 4 ∷ 0xA001 ∷ []) 0 (4 ∷ 0 ∷ 0 ∷ 0 ∷ []) ≡ refused 9 0
+  pub tile-no-padding-after : commandIn (1 ∷ 2 ∷ 3 ∷ 1 ∷ 4 ∷ 0xA000 ∷ 0xFFFF ∷ []) 0 (4 ∷ 0 ∷ 0 ∷ 0 ∷ []) ≡ taken (setTile false 0 exampleTile) (inLoad 0 6) 3
   pub rectangle-read : commandIn [] 0 (5 ∷ 1 ∷ 2 ∷ 3 ∷ 4 ∷ 99 ∷ []) ≡ taken (paint (rectangle 1 2 3 4)) nowhere 4
   pub rectangle-cut : commandIn [] 0 (5 ∷ 1 ∷ 2 ∷ 3 ∷ []) ≡ refused 6 0
   pub trapezoid-read : commandIn [] 0 (6 ∷ 1 ∷ 2 ∷ 3 ∷ 4 ∷ 5 ∷ 6 ∷ []) ≡ taken (paint (trapezoid 1 2 3 4 5 6)) nowhere 6
@@ -176,14 +176,19 @@ pub record CommandCases : Type 0 where
   pub load-runs-past : commandIn exampleLoad 0 (8 ∷ 12 ∷ 0 ∷ 9 ∷ []) ≡ refused 9 0
   pub samples-read : commandIn [] 0 (9 ∷ 8 ∷ 7 ∷ 1 ∷ 4 ∷ 0xF000 ∷ 99 ∷ []) ≡ taken (paint (samples 8 7 (1 ∷ 4 ∷ 0xF000 ∷ []))) (inBand 3 3) 5
   pub samples-cut : commandIn [] 0 (9 ∷ 8 ∷ 7 ∷ 1 ∷ 17 ∷ 0xF000 ∷ []) ≡ refused 6 0
+  pub samples-padding : commandIn [] 0 (9 ∷ 0 ∷ 0 ∷ 1 ∷ 4 ∷ 0xF001 ∷ []) ≡ refused 15 0
+  pub samples-cut-before-padding : commandIn [] 0 (9 ∷ 0 ∷ 0 ∷ 2 ∷ 4 ∷ 0xF001 ∷ []) ≡ refused 6 0
+  pub samples-no-lines : commandIn [] 0 (9 ∷ 8 ∷ 7 ∷ 0 ∷ 4 ∷ 0xF001 ∷ []) ≡ taken (paint (samples 8 7 (0 ∷ 4 ∷ []))) (inBand 3 2) 4
   pub load-samples-read : commandIn exampleLoad 0 (10 ∷ 9 ∷ 0 ∷ 8 ∷ 7 ∷ []) ≡ taken (paint (samples 8 7 (1 ∷ 4 ∷ 0xF000 ∷ []))) (inLoad 9 3) 4
   pub load-samples-cut : commandIn exampleLoad 0 (10 ∷ 9 ∷ 0 ∷ 8 ∷ []) ≡ refused 6 0
   pub load-samples-past : commandIn exampleLoad 0 (10 ∷ 10 ∷ 0 ∷ 8 ∷ 7 ∷ []) ≡ refused 9 0
+  pub load-samples-padding : commandIn (99 ∷ 1 ∷ 4 ∷ 0xF001 ∷ []) 0 (10 ∷ 1 ∷ 0 ∷ 8 ∷ 7 ∷ []) ≡ refused 15 0
+  pub load-samples-past-before-padding : commandIn (2 ∷ 4 ∷ 0xF001 ∷ []) 0 (10 ∷ 0 ∷ 0 ∷ 8 ∷ 7 ∷ []) ≡ refused 9 0
   pub unknown : commandIn [] 0 (11 ∷ []) ≡ refused 7 0
   pub code-0 : commandIn [] 0 (0 ∷ []) ≡ refused 7 0
   pub whole-word : commandIn [] 0 (0x0105 ∷ 1 ∷ 2 ∷ 3 ∷ 4 ∷ []) ≡ refused 7 0
   pub no-word : commandIn [] 0 [] ≡ refused 6 0
 
 pub command-cases : CommandCases
-unfolding commandIn command commandTable first decoded arrayExtent linesExtent groupExtent
+unfolding commandIn command commandTable first decoded arrayExtent linesPaddingSet paddingSet linesExtent groupExtent
 command-cases = search

@@ -5,10 +5,11 @@ use mathlib.Core.List.{List, [], _∷_}
 use mathlib.Core.Option.{Option, none, some}
 use Prim.Native.Nat.{ℕ}
 use lib.Dec.{ltb, eqb}
-use lib.ListN.{length, drop}
+use lib.ListN.{length, take, drop}
 use Rattle.refusal.specs.Tables.{Line, refuse}
 use Rattle.film_words.specs.Words.{at, longAt}
 use Rattle.film_words.specs.Arrays.{arrayExtent}
+use Rattle.film_words.specs.Padding.{paddingSet}
 use Rattle.film_words.specs.Groups.{groupExtent}
 
 -- how many argument words a command has, by its code from 0 on; a run group or a sample array in the band comes after them
@@ -19,6 +20,15 @@ argumentWords code = at (0 ∷ 2 ∷ 0 ∷ 0 ∷ 3 ∷ 4 ∷ 6 ∷ 1 ∷ 3 ∷ 2
 abbrev pub past : Option ℕ → Bool
 past none = true
 past (some n) = false
+
+-- the words of an array or a group that is all there
+abbrev pub takenWords : Option ℕ → ℕ
+takenWords none = 0
+takenWords (some n) = n
+
+-- the array at the beginning of ws, without the words after it
+abbrev pub arrayAlone : List ℕ → List ℕ
+arrayAlone ws = take (takenWords (arrayExtent ws)) ws
 
 -- whether a side of a tile is 0
 abbrev pub emptyTile : List ℕ → Bool
@@ -45,4 +55,8 @@ commandTable load least code args =
     ∷ refuse 9 0 (eqb code 4 && emptyTile tile)
     ∷ refuse 9 0 (eqb code 8 && past (groupExtent addressed))
     ∷ refuse 9 0 (eqb code 10 && past (arrayExtent addressed))
+    -- a padding bit is set, in a tile or in an array of the sheet or the load
+    ∷ refuse 15 0 (eqb code 4 && paddingSet (arrayAlone (drop 3 tile)))
+    ∷ refuse 15 0 (eqb code 9 && paddingSet (arrayAlone (drop 2 args)))
+    ∷ refuse 15 0 (eqb code 10 && paddingSet (arrayAlone addressed))
     ∷ []

@@ -13,6 +13,7 @@ use film_words::Extent;
 use film_words::array_extent;
 use film_words::group_extent;
 use film_words::long;
+use film_words::padding_set;
 use film_words::part;
 use film_words::word;
 use refusal::Refusal;
@@ -81,7 +82,7 @@ pub enum Colour {
 }
 
 // The refusals of one command, in their order: an unknown code; a command past its band; a priority over its limit or falling, a tile mode that is
-// not 0 or 1; a tile, group or array past the load, or a tile with a side of 0.
+// not 0 or 1; a tile, group or array past the load, or a tile with a side of 0; a padding bit that is set.
 const UNKNOWN_CODE: u8 = 7;
 
 const CUT: u8 = 6;
@@ -91,6 +92,8 @@ const BAD_PRIORITY: u8 = 8;
 const BAD_MODE: u8 = 13;
 
 const BAD_LOAD: u8 = 9;
+
+const BAD_PADDING: u8 = 15;
 
 // The argument words at which they are told, counted from the code word; the others are told at the code word.
 const HIGH_WORD: usize = 2;
@@ -163,6 +166,12 @@ fn read_tile(args: &[u8], load: &[u8], p: usize) -> Read
     if word(load, from + 4) == 0 {
         return Read::Refused(Refusal {
             number: BAD_LOAD,
+            place: p,
+        });
+    }
+    if padding_set(load, from + 3) {
+        return Read::Refused(Refusal {
+            number: BAD_PADDING,
             place: p,
         });
     }
@@ -290,6 +299,12 @@ fn read_samples(sheet: &[u8], args: &[u8], p: usize, end: usize) -> Read
             place: p,
         });
     };
+    if padding_set(args, 2) {
+        return Read::Refused(Refusal {
+            number: BAD_PADDING,
+            place: p,
+        });
+    }
     let from = p + 3;
     let to = from + n;
     Read::Whole(
@@ -324,6 +339,12 @@ fn read_load_samples(args: &[u8], load: &[u8], p: usize) -> Read
             place: p,
         });
     };
+    if padding_set(load, from) {
+        return Read::Refused(Refusal {
+            number: BAD_PADDING,
+            place: p,
+        });
+    }
     Read::Whole(
         Command::Paint(Mask::Samples {
             s_min: word(args, 2),

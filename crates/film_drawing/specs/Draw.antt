@@ -13,6 +13,7 @@ use Rattle.row.specs.Dots.{byteOf, rowOf}
 use Rattle.film_words.specs.Words.{words, bytesOf}
 use Rattle.film_words.specs.Load.{loadCount, loadWords}
 use Rattle.film_words.specs.Arrays.{arrayExtent, samplesIn, tileIn}
+use Rattle.film_words.specs.Padding.{linesPaddingSet, paddingSet}
 use Rattle.film_words.specs.Groups.{linesExtent, groupExtent, linesIn, runsIn}
 use Rattle.film_commands.specs.Refusals.{commandTable}
 use Rattle.film_commands.specs.Commands.{command, decoded}
@@ -93,6 +94,8 @@ pub record DrawCases : Type 0 where
   pub other-fault : drawAnswer (onePage (2 ∷ 1 ∷ 99 ∷ 1 ∷ 2 ∷ [])) emptyLoad 0 1 4 ≡ drawn 2 0 (0 ∷ 0 ∷ 0 ∷ 0 ∷ [])
   pub own-fault : drawAnswer (onePage (2 ∷ 2 ∷ 2 ∷ 99 ∷ 0 ∷ [])) emptyLoad 0 0 4 ≡ refused 7 15
   pub own-argument : drawAnswer (onePage (2 ∷ 5 ∷ 2 ∷ 4 ∷ 2 ∷ 0 ∷ 0 ∷ 0 ∷ [])) emptyLoad 0 0 4 ≡ refused 13 16
+  pub own-padding : drawAnswer (onePage (2 ∷ 6 ∷ 9 ∷ 0 ∷ 0 ∷ 1 ∷ 4 ∷ 0xF001 ∷ 0 ∷ [])) emptyLoad 0 0 4 ≡ refused 15 14
+  pub other-padding : drawAnswer (onePage (2 ∷ 6 ∷ 9 ∷ 0 ∷ 0 ∷ 1 ∷ 4 ∷ 0xF001 ∷ 0 ∷ [])) emptyLoad 0 1 4 ≡ drawn 2 0 (0 ∷ 0 ∷ 0 ∷ 0 ∷ [])
   pub room-before-fault : drawAnswer (onePage (2 ∷ 1 ∷ 99 ∷ 0 ∷ [])) emptyLoad 0 0 3 ≡ refused 12 0
   pub wrong-count : drawAnswer (onePage (9 ∷ 0 ∷ 0 ∷ [])) emptyLoad 0 1 4 ≡ refused 5 12
   pub no-band-by-herald : drawAnswer (onePage (9 ∷ 0 ∷ 0 ∷ [])) emptyLoad 0 2 4 ≡ refused 11 0
@@ -101,7 +104,7 @@ pub record DrawCases : Type 0 where
   pub words-after : drawAnswer (onePage (2 ∷ 0 ∷ 0 ∷ 7 ∷ [])) emptyLoad 0 1 4 ≡ drawn 2 0 (0 ∷ 0 ∷ 0 ∷ 0 ∷ [])
 
 pub draw-cases : DrawCases
-unfolding drawAnswer drawTable bufferAfter first lengthTable passwordTable sizeTable loadTable pageTable heraldTable loadCount onesOf ones joined words bytesOf loadWords bandCount bandsThen pagesFrom reachPage reach readBand readFrom strokes strokesFrom command commandTable decoded arrayExtent samplesIn tileIn linesExtent groupExtent linesIn runsIn rowsOf numbered rowBytes rowOf byteOf filmOf carryOut painted tileDot tileStart masked sample inRuns within
+unfolding drawAnswer drawTable bufferAfter first lengthTable passwordTable sizeTable loadTable pageTable heraldTable loadCount onesOf ones joined words bytesOf loadWords bandCount bandsThen pagesFrom reachPage reach readBand readFrom strokes strokesFrom command commandTable decoded arrayExtent linesPaddingSet paddingSet samplesIn tileIn linesExtent groupExtent linesIn runsIn rowsOf numbered rowBytes rowOf byteOf filmOf carryOut painted tileDot tileStart masked sample inRuns within
 draw-cases =
     record {
       listing-band-0 = refl;
@@ -121,6 +124,8 @@ draw-cases =
       other-fault = refl;
       own-fault = refl;
       own-argument = refl;
+      own-padding = refl;
+      other-padding = refl;
       room-before-fault = refl;
       wrong-count = refl;
       no-band-by-herald = refl;

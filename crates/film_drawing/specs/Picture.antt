@@ -8,6 +8,7 @@ use Rattle.row.specs.Dots.{byteOf, rowOf}
 use Rattle.film_words.specs.Words.{words, bytesOf}
 use Rattle.film_words.specs.Load.{loadWords}
 use Rattle.film_words.specs.Arrays.{arrayExtent, samplesIn, tileIn}
+use Rattle.film_words.specs.Padding.{linesPaddingSet, paddingSet}
 use Rattle.film_words.specs.Groups.{linesExtent, groupExtent, linesIn, runsIn}
 use Rattle.film_commands.specs.Refusals.{commandTable}
 use Rattle.film_commands.specs.Commands.{command, decoded}
@@ -55,7 +56,7 @@ pub record PictureCases : Type 0 where
   pub second-from-load : picture loadBands loadFile 0 ≡ (0x0C ∷ 0 ∷ []) ∷ (0x0C ∷ 0 ∷ []) ∷ []
 
 pub picture-cases : PictureCases
-unfolding picture pageAt bandStrokes words bytesOf loadWords bandCount bandsThen pagesFrom reachPage reach readBand readFrom strokes strokesFrom first command commandTable decoded arrayExtent samplesIn tileIn linesExtent groupExtent linesIn runsIn numbered rowBytes rowOf byteOf filmOf carryOut painted tileDot tileStart masked sample inRuns within
+unfolding picture pageAt bandStrokes words bytesOf loadWords bandCount bandsThen pagesFrom reachPage reach readBand readFrom strokes strokesFrom first command commandTable decoded arrayExtent linesPaddingSet paddingSet samplesIn tileIn linesExtent groupExtent linesIn runsIn numbered rowBytes rowOf byteOf filmOf carryOut painted tileDot tileStart masked sample inRuns within
 picture-cases =
     record {
       listing-picture = refl;

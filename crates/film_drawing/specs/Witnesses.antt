@@ -8,6 +8,7 @@ use Rattle.row.specs.Dots.{byteOf, rowOf}
 use Rattle.film_words.specs.Words.{words, bytesOf}
 use Rattle.film_words.specs.Load.{loadCount, loadWords}
 use Rattle.film_words.specs.Arrays.{arrayExtent, samplesIn, tileIn}
+use Rattle.film_words.specs.Padding.{linesPaddingSet, paddingSet}
 use Rattle.film_words.specs.Groups.{linesExtent, groupExtent, linesIn, runsIn}
 use Rattle.film_commands.specs.Refusals.{commandTable}
 use Rattle.film_commands.specs.Commands.{command, decoded}
@@ -60,7 +61,7 @@ pub record Witnesses : Type 0 where
   pub first-band-alike : Alike twoPages twoPages₂ 0 0
 
 pub witnesses : Witnesses
-unfolding checkAnswer checkLayout drawAnswer drawTable bufferAfter pageAt heraldTest first lengthTable passwordTable sizeTable loadTable pageTable heraldTable loadCount onesOf ones joined words bytesOf loadWords bandCount bandsThen pagesFrom reachPage reach readBand readFrom strokes strokesFrom command commandTable decoded arrayExtent samplesIn tileIn linesExtent groupExtent linesIn runsIn rowsOf numbered rowBytes rowOf byteOf filmOf carryOut painted tileDot tileStart masked sample inRuns within
+unfolding checkAnswer checkLayout drawAnswer drawTable bufferAfter pageAt heraldTest first lengthTable passwordTable sizeTable loadTable pageTable heraldTable loadCount onesOf ones joined words bytesOf loadWords bandCount bandsThen pagesFrom reachPage reach readBand readFrom strokes strokesFrom command commandTable decoded arrayExtent linesPaddingSet paddingSet samplesIn tileIn linesExtent groupExtent linesIn runsIn rowsOf numbered rowBytes rowOf byteOf filmOf carryOut painted tileDot tileStart masked sample inRuns within
 witnesses =
     record {
       listing-passes = record { answer = Pages 1; promised = record { answer-is = refl }; count = 1; is = refl };

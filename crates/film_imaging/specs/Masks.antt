@@ -46,7 +46,7 @@ inRuns (r ∷ rs) i f = (eqb (r .line) i && within (r .fMin) (r .fSize) f) || in
 abbrev pub wordBit : ℕ → ℕ → Bool
 wordBit w j = eqb (w / 2 ^ (15 - j) % 2) 1
 
--- dot j of line i of an array; 0 off the array, so padding bits are not looked at
+-- dot j of line i of an array; 0 off the array, so that no padding bit is a dot of it
 unfoldable pub sample : Samples → ℕ → ℕ → Bool
 sample a i j = ltb i (a .sSize) && ltb j (a .fSize) && wordBit (at (a .lines) (i * lineWords (a .fSize) + j / 16)) (j % 16)
 

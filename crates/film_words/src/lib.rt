@@ -5,6 +5,7 @@ ghost use lib.ListN.{drop};
 ghost use Rattle.film_words.specs.Words.{words, at, longAt};
 ghost use Rattle.film_words.specs.Parts.{partOf};
 ghost use Rattle.film_words.specs.Arrays.{arrayExtent};
+ghost use Rattle.film_words.specs.Padding.{paddingSet};
 ghost use Rattle.film_words.specs.Groups.{groupExtent};
 ghost use Rattle.film_words.specs.Answers.{extentOf};
 
@@ -73,6 +74,34 @@ pub fn array_extent(file: &[u8], p: usize) -> Extent
         return Extent::Past;
     }
     Extent::Words(n)
+}
+
+// Whether a bit is set in the padding of the sample array at place p: in each line's last word, the low bits that are no dots. The last word of each
+// line is read, and no other.
+pub fn padding_set(file: &[u8], p: usize) -> bool
+    ensures { λ r. ⌜ r ≡ paddingSet (drop p (words (now (file .entry)))) ⌝ }
+{
+    if p >= file.len() / 2 {
+        return false;
+    }
+    let lines = word(file, p);
+    let dots = word(file, p + 1);
+    if dots % 16 == 0 {
+        return false;
+    }
+    let mask = 65535u16 >> (dots % 16);
+    let step = (dots as usize + 15) / 16;
+    let mut i = 0u16;
+    // The last word before line i.
+    let mut last = p + 1;
+    while i < lines {
+        last += step;
+        if word(file, last) & mask != 0 {
+            return true;
+        }
+        i += 1;
+    }
+    false
 }
 
 // How many words the run group at place p takes.

@@ -9,8 +9,8 @@ Markdown tables. Inputs are made here; answers are compared before they are time
 usage: bench [--rounds N] [--subject NAME]
 
   --rounds N      rounds of each competitor, 1 to 1000; 7 where none is given
-  --subject NAME  one subject alone: check, rectangles, trapezoids, runs, samples, gdi-write,
-                  gdi-read
+  --subject NAME  one subject alone: check, check-samples, rectangles, trapezoids, runs, samples,
+                  gdi-write, gdi-read
   --help          this text
 
 PRINTBOX_SAGEM_FILTER names another place of the filter rastertosag-gdi.

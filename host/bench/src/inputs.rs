@@ -220,10 +220,31 @@ pub fn sample_film(size: Size) -> Film {
     film(size, &masks, &tile(), &[4, 0, 0, 0])
 }
 
-/// A sheet of exactly so many bytes, for the check alone: pages of this size whose bands have as
-/// many words as each other, give or take one. By words they are rectangles, trapezoids, runs and
-/// samples in about equal parts.
+/// A sheet for the check alone, by words rectangles, trapezoids, runs and samples in about equal
+/// parts.
 pub fn mixed_film(length: usize, pages: usize, size: Size) -> Film {
+    check_film(length, pages, size, mixed_band)
+}
+
+/// A sheet for the check alone, all samples: each band has one array of lines of a word, 15 dots
+/// and a padding bit.
+pub fn padded_film(length: usize, pages: usize, size: Size) -> Film {
+    check_film(length, pages, size, |share, first| {
+        let mut words = vec![9, word(first), 0, word(share - 5), 15];
+        words.extend((5..share).map(|i| word(i * 40_503 % 65_536) & 0xFFFE));
+        (words, 1)
+    })
+}
+
+/// A sheet of exactly so many bytes: pages of this size whose bands have as many words as each
+/// other, give or take one. `band_commands` makes so many words of commands for the band that begins
+/// at a line, and tells how many commands they are.
+fn check_film(
+    length: usize,
+    pages: usize,
+    size: Size,
+    band_commands: impl Fn(usize, usize) -> (Vec<u16>, usize),
+) -> Film {
     let mut words = herald(size, 0, word(pages));
     let bands = pages * size.bands();
     let counts = words.len() + pages + bands;
@@ -234,7 +255,7 @@ pub fn mixed_film(length: usize, pages: usize, size: Size) -> Film {
             words.push(word(size.bands()));
         }
         let first = band % size.bands() * BAND_LINES;
-        let (own, count) = mixed_band(share + usize::from(band < more), first);
+        let (own, count) = band_commands(share + usize::from(band < more), first);
         words.push(word(own.len()));
         words.extend(own);
         commands += count;

@@ -8,6 +8,7 @@ use std::path::Path;
 #[derive(Clone, Copy, Debug, PartialEq, Eq)]
 pub enum Subject {
     Check,
+    CheckSamples,
     Rectangles,
     Trapezoids,
     Runs,
@@ -17,8 +18,9 @@ pub enum Subject {
 }
 
 impl Subject {
-    pub const ALL: [Subject; 7] = [
+    pub const ALL: [Subject; 8] = [
         Subject::Check,
+        Subject::CheckSamples,
         Subject::Rectangles,
         Subject::Trapezoids,
         Subject::Runs,
@@ -31,6 +33,7 @@ impl Subject {
     pub fn name(self) -> &'static str {
         match self {
             Subject::Check => "check",
+            Subject::CheckSamples => "check-samples",
             Subject::Rectangles => "rectangles",
             Subject::Trapezoids => "trapezoids",
             Subject::Runs => "runs",
@@ -44,6 +47,7 @@ impl Subject {
     pub fn title(self) -> &'static str {
         match self {
             Subject::Check => "check a sheet",
+            Subject::CheckSamples => "check a sheet of samples",
             Subject::Rectangles => "draw rectangles",
             Subject::Trapezoids => "draw trapezoids",
             Subject::Runs => "draw runs",
@@ -56,7 +60,7 @@ impl Subject {
     /// The peers that do the like.
     pub fn peers(self) -> &'static [Who] {
         match self {
-            Subject::Check | Subject::Runs | Subject::Samples => &[],
+            Subject::Check | Subject::CheckSamples | Subject::Runs | Subject::Samples => &[],
             Subject::Rectangles | Subject::Trapezoids => &[Who::Pixman],
             Subject::GdiWrite => &[Who::Libtiff, Who::Filter, Who::FilterStart],
             Subject::GdiRead => &[Who::Libtiff],
@@ -92,8 +96,9 @@ impl Scale {
         Size { width, height }
     }
 
-    /// A sheet for the check: the greatest that there may be, and its parts.
-    pub fn mixed(self) -> Film {
+    /// A sheet for the check, by its bytes, its pages and their size: the greatest that there may be,
+    /// and its parts.
+    pub fn sheet(self, film: impl Fn(usize, usize, Size) -> Film) -> Film {
         let mib = 1 << 20;
         let width = 4762;
         let (length, pages, height) = match self {
@@ -101,7 +106,7 @@ impl Scale {
             Scale::Quarter => (4 * mib, 1, 6778),
             Scale::Sixteenth => (mib, 1, 1694),
         };
-        inputs::mixed_film(length, pages, Size { width, height })
+        film(length, pages, Size { width, height })
     }
 }
 
@@ -144,7 +149,8 @@ pub struct Entry {
 fn entry(subject: Subject, scale: Scale, filter: Option<&Path>) -> Entry {
     let size = scale.page();
     match subject {
-        Subject::Check => draws::check(scale.mixed()),
+        Subject::Check => draws::check(scale.sheet(inputs::mixed_film)),
+        Subject::CheckSamples => draws::check(scale.sheet(inputs::padded_film)),
         Subject::Rectangles => draws::rectangles(size),
         Subject::Trapezoids => draws::trapezoids(size),
         Subject::Runs => draws::page(inputs::run_film(size), Vec::new()),

@@ -72,26 +72,38 @@ fn inputs_are_the_same_at_every_call() {
 
 /// Sheets for the check have the length that was asked for, and pass.
 #[test]
-fn mixed_sheets() {
+fn sheets_for_the_check() {
     let size = SIZES[0];
-    for (length, pages) in [(20_000, 1), (20_002, 1), (65_536, 2), (131_072, 3)] {
-        let film = inputs::mixed_film(length, pages, size);
-        assert_eq!(film.sheet.len(), length);
-        assert_eq!(film::check(&film.sheet, &film.load), Ok(pages));
-        assert_eq!(
-            reference::film_check(&film.sheet, &film.load),
-            Answer::Done(pages as u64, 0)
-        );
+    for make in [inputs::mixed_film, inputs::padded_film] {
+        for (length, pages) in [(20_000, 1), (20_002, 1), (65_536, 2), (131_072, 3)] {
+            let film = make(length, pages, size);
+            assert_eq!(film.sheet.len(), length);
+            assert_eq!(film::check(&film.sheet, &film.load), Ok(pages));
+            assert_eq!(
+                reference::film_check(&film.sheet, &film.load),
+                Answer::Done(pages as u64, 0)
+            );
+        }
+        for (scale, part, pages) in [
+            (Scale::Full, 1, 4),
+            (Scale::Quarter, 4, 1),
+            (Scale::Sixteenth, 16, 1),
+        ] {
+            let film = scale.sheet(make);
+            assert_eq!(film.sheet.len(), FILE_BYTES / part);
+            assert_eq!(film::check(&film.sheet, &film.load), Ok(pages));
+        }
     }
-    for (scale, part, pages) in [
-        (Scale::Full, 1, 4),
-        (Scale::Quarter, 4, 1),
-        (Scale::Sixteenth, 16, 1),
-    ] {
-        let film = scale.mixed();
-        assert_eq!(film.sheet.len(), FILE_BYTES / part);
-        assert_eq!(film::check(&film.sheet, &film.load), Ok(pages));
-    }
+}
+
+/// Of a sheet of samples every word of an array is the last of a line, and its last bit is padding.
+#[test]
+fn padded_sheets() {
+    let mut film = inputs::padded_film(20_000, 1, SIZES[0]);
+    let last = film.sheet.len() - 1;
+    film.sheet[last] |= 1;
+    let refusal = film::check(&film.sheet, &film.load).expect_err("a padding bit");
+    assert_eq!(refusal.number, 15);
 }
 
 /// A sheet for the check can be drawn too, as the reference draws it.

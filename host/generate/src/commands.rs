@@ -1,6 +1,6 @@
 //! Whole commands of a band.
 
-use crate::load::{array, array_end, coordinate, group, group_end, is_tile, side, size, Load};
+use crate::load::{array, coordinate, group, group_end, is_array, is_tile, side, size, Load};
 use crate::Rng;
 
 /// The film and the band that commands are made for.
@@ -185,8 +185,7 @@ pub fn command(rng: &mut Rng, frame: &Frame, load: &Load, now: &mut u32) -> Vec<
         }
         24..=25 => return samples(rng, frame),
         26..=27 => {
-            let fits = |x| array_end(words, x).is_some();
-            if let Some(address) = address(rng, &load.arrays, length, fits) {
+            if let Some(address) = address(rng, &load.arrays, length, |x| is_array(words, x)) {
                 let place = long(address);
                 let s_min = frame.s_min(rng);
                 return vec![10, place[0], place[1], s_min, coordinate(rng, frame.dots)];

@@ -2,7 +2,7 @@
 
 use crate::commands::{rectangle, trapezoid};
 use crate::film::{Band, Film, Plan};
-use crate::load::{array, group};
+use crate::load::{array, group, padding};
 use crate::Rng;
 
 /// A cut that is made in the bytes, after the film was put into words.
@@ -163,7 +163,7 @@ fn in_the_walk(rng: &mut Rng, plan: &mut Plan) -> Option<Cut> {
 }
 
 fn in_a_command(rng: &mut Rng, plan: &mut Plan) {
-    match rng.below(20) {
+    match rng.below(22) {
         0..=2 => {
             let code = rng.pick(&[0, 11, 12, 0x0102, 0x0500, 0x8005, 0xFFFF, 0x000F]);
             put(rng, plan, vec![code]);
@@ -184,6 +184,7 @@ fn in_a_command(rng: &mut Rng, plan: &mut Plan) {
         15 => cut_by_load(rng, plan),
         16 => no_side(rng, plan),
         17 | 18 => soup(rng, plan),
+        19 | 20 => set_padding(rng, plan),
         _ => {
             // A line without a last run, in a band that goes on.
             let mut words = vec![7, rng.word() & 7, rng.pick(&[1, 2, 0xFFFF])];
@@ -303,6 +304,11 @@ fn cut_by_load(rng: &mut Rng, plan: &mut Plan) {
         8 => group(rng, lines, dots, 3),
         _ => array(rng, lines, dots),
     };
+    // With a padding bit set in a line that may be there.
+    if code != 8 && rng.percent(50) {
+        let sizes = if code == 4 { 3 } else { 0 };
+        set_padding_bit(rng, &mut words[sizes..]);
+    }
     let most = words.len() as u64 - 1;
     let length = if rng.percent(40) {
         most
@@ -325,6 +331,48 @@ fn no_side(rng: &mut Rng, plan: &mut Plan) {
     let [low, high] = append(rng, plan, &[1, 0, 0, height, width]);
     let mode = rng.below(2) as u16;
     put(rng, plan, vec![4, mode, low, high]);
+}
+
+/// Sets a padding bit of an array, or all of a line; an array of whole words stays as it is.
+fn set_padding_bit(rng: &mut Rng, array: &mut [u16]) {
+    let (lines, dots) = (usize::from(array[0]), u64::from(array[1]));
+    if lines == 0 || dots % 16 == 0 {
+        return;
+    }
+    let line = match rng.below(3) {
+        0 => 1,
+        1 => lines,
+        _ => 1 + rng.index(lines),
+    };
+    let bits = match rng.below(4) {
+        0 => padding(dots),
+        // The first of them, and the last.
+        1 => 1 << (15 - dots % 16),
+        2 => 1,
+        _ => 1 << rng.below(16 - dots % 16),
+    };
+    array[1 + line * dots.div_ceil(16) as usize] |= bits;
+}
+
+/// A padding bit is set in an array of the sheet, or in an array or a tile of the load.
+fn set_padding(rng: &mut Rng, plan: &mut Plan) {
+    let (lines, dots) = (rng.between(1, 5), 16 * rng.below(3) + rng.between(1, 15));
+    let mut words = array(rng, lines, dots);
+    set_padding_bit(rng, &mut words);
+    let (s_min, f_min) = (rng.word() & 7, rng.word() & 7);
+    let command = match rng.pick(&[4, 9, 10]) {
+        4 => {
+            let tile = [&[rng.word() & 3, s_min, f_min], &words[..]].concat();
+            let [low, high] = append(rng, plan, &tile);
+            vec![4, rng.below(2) as u16, low, high]
+        }
+        9 => [&[9, s_min, f_min], &words[..]].concat(),
+        _ => {
+            let [low, high] = append(rng, plan, &words);
+            vec![10, low, high, s_min, f_min]
+        }
+    };
+    put(rng, plan, command);
 }
 
 /// A band of small words that mean what they happen to mean.

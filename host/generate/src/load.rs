@@ -36,9 +36,14 @@ pub fn array_end(words: &[u16], place: usize) -> Option<usize> {
     (next <= words.len()).then_some(next)
 }
 
-/// Whether a tile stands whole at a place and has no side of 0.
+/// Whether an array stands whole at a place, padded with zeros.
+pub fn is_array(words: &[u16], place: usize) -> bool {
+    array_end(words, place).is_some() && is_padded(words, place)
+}
+
+/// The same of a tile, with no side of 0.
 pub fn is_tile(words: &[u16], place: usize) -> bool {
-    array_end(words, place + 3).is_some() && words[place + 3] != 0 && words[place + 4] != 0
+    is_array(words, place + 3) && words[place + 3] != 0 && words[place + 4] != 0
 }
 
 /// A place along a scan line of so many dots, or across so many lines.
@@ -87,17 +92,37 @@ pub fn group(rng: &mut Rng, lines: u64, dots: u64, most_runs: u64) -> Vec<u16> {
     words
 }
 
-/// A sample array of so many lines and dots; padding bits are as they come.
+/// The mask of the padding in the last word of a line of so many dots.
+pub fn padding(dots: u64) -> u16 {
+    match dots % 16 {
+        0 => 0,
+        bits => 0xFFFF >> bits,
+    }
+}
+
+/// Whether every padding bit of the array that stands whole at a place is 0.
+pub fn is_padded(words: &[u16], place: usize) -> bool {
+    let dots = u64::from(words[place + 1]);
+    let (lines, step) = (usize::from(words[place]), dots.div_ceil(16) as usize);
+    (1..=lines).all(|line| words[place + 1 + line * step] & padding(dots) == 0)
+}
+
+/// A sample array of so many lines and dots, padded with zeros.
 pub fn array(rng: &mut Rng, lines: u64, dots: u64) -> Vec<u16> {
     let mut words = vec![lines as u16, dots as u16];
     let style = rng.below(6);
-    for _ in 0..lines * dots.div_ceil(16) {
-        words.push(match style {
-            0 => 0xFFFF,
-            1 => rng.word() & rng.word() & rng.word(),
-            2 => rng.word() | rng.word(),
-            _ => rng.word(),
-        });
+    let line_words = dots.div_ceil(16);
+    for _ in 0..lines {
+        for word in 1..=line_words {
+            let bits = match style {
+                0 => 0xFFFF,
+                1 => rng.word() & rng.word() & rng.word(),
+                2 => rng.word() | rng.word(),
+                _ => rng.word(),
+            };
+            let last = word == line_words;
+            words.push(if last { bits & !padding(dots) } else { bits });
+        }
     }
     words
 }

@@ -82,8 +82,9 @@ fn tile_at(load: Words, address: u32) -> Option<Tile> {
 }
 
 /// The command at a place of a band that ends at `end`, and the place after it.
-/// `load` is the load's words after its count. "In one command 7, 6, 8, 9", and 13 "where 8 stood
-/// in the order"; 7, 6 and 9 at the code, the others at "the argument word at fault".
+/// `load` is the load's words after its count. "In one command 7, 6, 8, 9", 13 "where 8 stood in
+/// the order", and 15 "last in one command after 9"; 7, 6, 9 and 15 at the code, the others at "the
+/// argument word at fault".
 pub fn read<'a>(
     sheet: Words<'a>,
     load: Words<'a>,
@@ -108,6 +109,13 @@ pub fn read<'a>(
     let past_load = Refusal { number: 9, place };
     let argument = |i: u64| band.at(place + 1 + i).ok_or(cut);
     let long = |i: u64| band.long_at(place + 1 + i).ok_or(cut);
+    let padded = |samples: Samples| {
+        if samples.is_padded_with_zeros() {
+            Ok(())
+        } else {
+            refuse(15, place)
+        }
+    };
     let whole = |command| Ok((command, arguments_end));
     match code {
         1 => {
@@ -129,6 +137,7 @@ pub fn read<'a>(
                 return refuse(13, place + 1);
             }
             let tile = tile_at(load, long(1)?).ok_or(past_load)?;
+            padded(tile.samples)?;
             whole(Command::Tile {
                 transparent: mode == 1,
                 tile,
@@ -161,6 +170,7 @@ pub fn read<'a>(
         9 => {
             let (s_min, f_min) = (argument(0)?, argument(1)?);
             let (samples, next) = Samples::read(band, place + 3).ok_or(cut)?;
+            padded(samples)?;
             let mask = Mask::Samples {
                 s_min,
                 f_min,
@@ -170,6 +180,7 @@ pub fn read<'a>(
         }
         10 => {
             let (samples, _) = Samples::read(load, u64::from(long(0)?)).ok_or(past_load)?;
+            padded(samples)?;
             whole(Command::Mask(Mask::Samples {
                 s_min: argument(2)?,
                 f_min: argument(3)?,

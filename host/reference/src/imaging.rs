@@ -13,6 +13,7 @@ pub enum Colour<'a> {
 
 impl Colour<'_> {
     /// "Opaque gives I = (I and not M) or (C and M); transparent gives I = I or (C and M)."
+    #[inline]
     pub fn paint(&self, picture: bool, mask: bool, s: i64, f: i64) -> bool {
         let (colour, transparent) = match self {
             Colour::Ink => (true, false),
@@ -83,6 +84,7 @@ impl<'a> Placed<'a> {
     }
 
     /// Whether the mask can have a dot on this line at all.
+    #[inline]
     pub fn has_line(&self, s: i64) -> bool {
         let (s_min, s_size) = match self.mask {
             Mask::Rectangle { s_min, s_size, .. } => (s_min, s_size),
@@ -94,6 +96,7 @@ impl<'a> Placed<'a> {
     }
 
     /// Whether the dot is in the mask.
+    #[inline]
     pub fn has_dot(&self, s: i64, f: i64) -> bool {
         match self.mask {
             // "sMin ≤ s ≤ sMin+sSize−1 and fMin ≤ f ≤ fMin+fSize−1. Size 0 is empty."

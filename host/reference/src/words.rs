@@ -116,8 +116,19 @@ impl<'a> Samples<'a> {
         Some((samples, next))
     }
 
+    /// Whether each line is "padded with zeroes to a word boundary": the last word of a line has as
+    /// many zeros at its end as there are bits after the dots.
+    pub fn is_padded_with_zeros(&self) -> bool {
+        let line_words = u64::from(self.f_size).div_ceil(16);
+        let padding = 16 * line_words - u64::from(self.f_size);
+        (1..=u64::from(self.s_size)).all(|lines| {
+            let last = self.words.at(self.place + 1 + lines * line_words);
+            last.is_some_and(|word| u64::from(word.trailing_zeros()) >= padding)
+        })
+    }
+
     /// The sample of a line and a dot along it, both counted from 0. Off the array there is none:
-    /// "padding bits are not looked at".
+    /// no padding bit is a dot.
     pub fn is_set(&self, line: i64, dot: i64) -> bool {
         if line < 0 || line >= i64::from(self.s_size) || dot < 0 || dot >= i64::from(self.f_size) {
             return false;

@@ -1,6 +1,7 @@
 //! The stored cases, one a line: tests/data/film.txt and tests/data/gdi.txt of one reading of the
 //! requirements, tests/data/model.txt of another, which has tiles and blocks that are full, and
-//! tests/data/p1.txt and tests/data/p7.txt of a third, of films after the changes P1 and P7.
+//! tests/data/p1.txt, tests/data/p7.txt and tests/data/p5.txt of a third, of films after the
+//! changes P1, P7 and P5.
 //!
 //! Fields are split by a blank, bytes are in hexadecimal (`-` for none) and numbers in decimal;
 //! what stands after `=` is the answer. After a refusal the buffer is as it was.
@@ -23,6 +24,7 @@ pub const GDI: &str = include_str!("../data/gdi.txt");
 pub const MODEL: &str = include_str!("../data/model.txt");
 pub const P1: &str = include_str!("../data/p1.txt");
 pub const P7: &str = include_str!("../data/p7.txt");
+pub const P5: &str = include_str!("../data/p5.txt");
 
 /// A case: a call with all that it lends, and what has to come of it.
 pub struct Case {

@@ -18,8 +18,8 @@ const ENTRIES: [(&str, &str); 10] = [
 ];
 
 /// The rows: every number of a refusal, then done (0) and page end (`PAGE_END`).
-const NUMBERS: [usize; 22] = [
-    1, 2, 3, 4, 5, 6, 7, 8, 9, 10, 11, 12, 13, 21, 22, 23, 24, 25, 26, 27, DONE, PAGE_END,
+const NUMBERS: [usize; 23] = [
+    1, 2, 3, 4, 5, 6, 7, 8, 9, 10, 11, 12, 13, 15, 21, 22, 23, 24, 25, 26, 27, DONE, PAGE_END,
 ];
 const DONE: usize = 0;
 const PAGE_END: usize = 29;

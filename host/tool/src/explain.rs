@@ -5,7 +5,7 @@ use crate::failure::{Failure, Outcome, Status};
 use crate::output::to_standard_output;
 
 /// What each refusal means, in a sentence.
-pub const MEANINGS: [(u8, &str); 26] = [
+pub const MEANINGS: [(u8, &str); 27] = [
     (1, "The sheet or the load has an odd number of bytes, or the sheet, the load or the job has \
          more than 16,777,216; the place is 0."),
     (2, "The file is no sheet: it has fewer than 12 words or does not start with the password AAAA \
@@ -30,6 +30,10 @@ pub const MEANINGS: [(u8, &str); 26] = [
     (11, "The sheet has no such page or no such band; the place is 0."),
     (12, "The buffer that was lent for a band is shorter than the band's rows; the place is 0."),
     (13, "A tile mode is neither 0, opaque, nor 1, transparent; the place is the mode."),
+    (15, "A padding bit is set in a sample array or a tile that a command names: the bits of each \
+          line's last word after its fSize dots have to be 0, and to clear them in the sheet or \
+          the load, as the line of the refusal says, changes no dot of the array; the place is \
+          the command's code."),
     (21, "The job does not start with the head of a Sagem GDI job; the place is the first byte \
           that differs."),
     (22, "A page head has a wrong fixed byte, a width outside 1 to 16,383, the height 0, or a \
@@ -65,7 +69,7 @@ pub fn run(arguments: &Arguments) -> Outcome<Status> {
     let Some((_, sentence)) = meaning else {
         let given = shown(given);
         return Err(Failure::trouble(format!(
-            "no refusal has the number {given}: they are 1 to 13, 21 to 27 and 31 to 36"
+            "no refusal has the number {given}: they are 1 to 13, 15, 21 to 27 and 31 to 36"
         )));
     };
     to_standard_output(|output| writeln!(output, "{sentence}"))?;

@@ -181,6 +181,6 @@ A picture of another width or of no rows is not taken, and then nothing is writt
 pub const EXPLAIN: &str = "\
 printbox explain NUMBER
 
-Tells in a sentence what the refusal of this number means: 1 to 13 of sheets, 1 and 21 to 27 of
-jobs, 31 to 36 of the strip printer.
+Tells in a sentence what the refusal of this number means: 1 to 13 and 15 of sheets, 1 and 21 to
+27 of jobs, 31 to 36 of the strip printer.
 ";

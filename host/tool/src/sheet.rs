@@ -168,6 +168,40 @@ fn group_words(words: Words, at: usize) -> Option<usize> {
     Some(length)
 }
 
+/// A padding bit that is set in a sample array.
+#[derive(Clone, Copy, Debug, PartialEq, Eq)]
+pub struct PaddingBit {
+    pub line: usize,
+    /// Counted along the line from 0, the high bit of its first word.
+    pub bit: usize,
+    /// The dots of a line.
+    pub dots: usize,
+    /// The line's last word, its place, and what it is without its padding bits.
+    pub word: usize,
+    pub place: usize,
+    pub cleared: usize,
+}
+
+/// The first one in the array at a place, if there is any.
+pub fn padding_bit(words: Words, at: usize) -> Option<PaddingBit> {
+    let (lines, dots) = (words.word(at)?, words.word(at + 1)?);
+    let line_words = dots.div_ceil(16);
+    let bits = 16 * line_words - dots;
+    (0..lines).find_map(|line| {
+        let place = at + 1 + (line + 1) * line_words;
+        let word = words.word(place)?;
+        let padding = word % (1 << bits);
+        (padding != 0).then(|| PaddingBit {
+            line,
+            bit: 16 * line_words - 1 - padding.ilog2() as usize,
+            dots,
+            word,
+            place,
+            cleared: word - padding,
+        })
+    })
+}
+
 #[cfg(test)]
 mod tests {
     use super::*;
@@ -220,7 +254,7 @@ mod tests {
             vec![9, 0, 0, 0, 16],
             vec![9, 0, 0, 3, 0],
             vec![9, 0, 0, 2, 16, 1, 2],
-            vec![9, 0, 0, 2, 17, 1, 2, 3, 4],
+            vec![9, 0, 0, 2, 17, 1, 0, 3, 0x8000],
             vec![2],
         ]
     }
@@ -307,7 +341,7 @@ mod tests {
                 (5 | 6, Some(Spot::Page { page })) => (page, 0),
                 (6, Some(Spot::Band { page, band })) => (page, band),
                 (
-                    number @ (6..=9 | 13),
+                    number @ (6..=9 | 13 | 15),
                     Some(Spot::Command {
                         page, band, code, ..
                     }),
@@ -336,6 +370,49 @@ mod tests {
             located += 1;
         }
         assert!(located > 2000, "{located} sheets");
+    }
+
+    /// Of random sheets that are refused for their padding: each bit that is found is set and is
+    /// padding, line after line, and with all of them cleared the command is not refused again.
+    #[test]
+    fn padding_that_is_refused() {
+        let mut found = 0;
+        for seed in 0..20_000 {
+            let generate::Film { sheet, load } = generate::film(&mut generate::Rng::new(seed));
+            let Err(refusal) = printbox::film::check(&sheet, &load) else {
+                continue;
+            };
+            if refusal.number != 15 {
+                continue;
+            }
+            let words = Words(&sheet);
+            let code = refusal.place as usize;
+            let (mut mended, at) = match words.word(code) {
+                Some(4) => (load.clone(), 5 + words.long(code + 2).expect("an address")),
+                Some(9) => (sheet.clone(), code + 3),
+                _ => (load.clone(), 2 + words.long(code + 1).expect("an address")),
+            };
+            let mut lines = Vec::new();
+            while let Some(padding) = padding_bit(Words(&mended), at) {
+                let line_words = padding.dots.div_ceil(16);
+                assert!((padding.dots..16 * line_words).contains(&padding.bit));
+                let bit = padding.bit - 16 * (line_words - 1);
+                assert_eq!(padding.word >> (15 - bit) & 1, 1, "seed {seed}");
+                let cleared = (padding.cleared as u16).to_be_bytes();
+                mended[2 * padding.place..2 * padding.place + 2].copy_from_slice(&cleared);
+                lines.push(padding.line);
+            }
+            assert!(lines.is_sorted_by(|a, b| a < b) && !lines.is_empty());
+            // Mended, the command is not refused again.
+            let (sheet, load) = match words.word(code) {
+                Some(9) => (&mended, &load),
+                _ => (&sheet, &mended),
+            };
+            let next = printbox::film::check(sheet, load);
+            assert_ne!(next.err(), Some(refusal), "seed {seed}");
+            found += 1;
+        }
+        assert!(found > 100, "{found} sheets");
     }
 
     #[test]

@@ -4,7 +4,7 @@
 //! files, and no proof covers it.
 
 use crate::english::{count, ordinal, pages_of_bands, thousands};
-use crate::sheet::{locate, Herald, Spot, Words};
+use crate::sheet::{locate, padding_bit, Herald, Spot, Words};
 use printbox::film::BAND_BYTES;
 use printbox::{Refusal, FILE_BYTES};
 
@@ -99,7 +99,7 @@ fn no_page_or_band(sheet: &[u8]) -> String {
     }
 }
 
-/// Numbers 5 to 10 and 13, which the walk over pages and bands meets.
+/// Numbers 5 to 10, 13 and 15, which the walk over pages and bands meets.
 fn walk(number: u8, sheet: &[u8], load: &[u8], place: usize) -> String {
     let spot = locate(sheet, place);
     let what = match number {
@@ -110,6 +110,7 @@ fn walk(number: u8, sheet: &[u8], load: &[u8], place: usize) -> String {
         9 => past_the_load(sheet, load, place).to_string(),
         10 => "words after the last page".to_string(),
         13 => format!("the tile mode is {}, and not 0 or 1", word(sheet, place)),
+        15 => padding(sheet, load, place),
         _ => "refused".to_string(),
     };
     match spot {
@@ -194,6 +195,33 @@ fn past_the_load(sheet: &[u8], load: &[u8], code: usize) -> &'static str {
         Some(8) => "the run group runs past the load",
         _ => "the sample array runs past the load",
     }
+}
+
+/// Number 15: the first padding bit that is set, and the word that has it, as it is and as it has
+/// to be. A word of the load is told by its address.
+fn padding(sheet: &[u8], load: &[u8], code: usize) -> String {
+    let words = Words(sheet);
+    // The place of the array's sizes; an address counts after the two words of the load's count.
+    let in_load = |address: usize, before: usize| 2 + words.long(address).unwrap_or(0) + before;
+    let (what, file, sizes) = match words.word(code) {
+        Some(4) => ("tile", Words(load), in_load(code + 2, 3)),
+        Some(9) => ("sample array", words, code + 3),
+        _ => ("sample array", Words(load), in_load(code + 1, 0)),
+    };
+    let Some(padding) = padding_bit(file, sizes) else {
+        return "a padding bit is set".to_string();
+    };
+    let (line, bit, place) = (padding.line, padding.bit, padding.place);
+    let named = match words.word(code) {
+        Some(9) => format!("word {place}"),
+        _ => format!("the word at load address {}", place - 2),
+    };
+    let dots = count(padding.dots, "dot");
+    let (there, wanted) = (padding.word, padding.cleared);
+    format!(
+        "bit {bit} of line {line} of the {what} is set, after its {dots}: {named} is {there:04X} \
+         hex, and has to be {wanted:04X}"
+    )
 }
 
 #[cfg(test)]
@@ -382,6 +410,38 @@ mod tests {
                 format!("refused 9 at 14: tile with a side of 0 {first}")
             );
         }
+    }
+
+    /// The line, the bit and the word, in the sheet and in the load.
+    #[test]
+    fn padding_bits() {
+        let first = "(page 0, band 0, first command)";
+        assert_eq!(
+            commands(&[9, 0, 0, 1, 4, 0xF001]),
+            format!(
+                "refused 15 at 14: bit 15 of line 0 of the sample array is set, after its 4 dots: \
+                 word 19 is F001 hex, and has to be F000 {first}"
+            )
+        );
+        assert_eq!(
+            commands(&[2, 9, 0, 0, 2, 17, 0xFFFF, 0x8000, 0xFFFF, 0xC001]),
+            "refused 15 at 15: bit 17 of line 1 of the sample array is set, after its 17 dots: \
+             word 23 is C001 hex, and has to be 8000 (page 0, band 0, second command)"
+        );
+        assert_eq!(
+            with_load(&[4, 0, 1, 0], &[7, 0, 9, 0, 0, 0, 1, 1, 0x4000]),
+            format!(
+                "refused 15 at 14: bit 1 of line 0 of the tile is set, after its 1 dot: the word \
+                 at load address 6 is 4000 hex, and has to be 0000 {first}"
+            )
+        );
+        assert_eq!(
+            with_load(&[10, 1, 0, 0, 0], &[5, 0, 9, 2, 15, 0xFFFE, 0xFFFF]),
+            format!(
+                "refused 15 at 14: bit 15 of line 1 of the sample array is set, after its 15 dots: \
+                 the word at load address 4 is FFFF hex, and has to be FFFE {first}"
+            )
+        );
     }
 
     #[test]

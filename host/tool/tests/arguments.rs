@@ -170,23 +170,28 @@ fn bad_arguments() {
         ),
         (
             &["explain", "0"],
-            "no refusal has the number `0`: they are 1 to 13, 21 to 27 and 31 to 36".to_string(),
+            "no refusal has the number `0`: they are 1 to 13, 15, 21 to 27 and 31 to 36"
+                .to_string(),
         ),
         (
             &["explain", "14"],
-            "no refusal has the number `14`: they are 1 to 13, 21 to 27 and 31 to 36".to_string(),
+            "no refusal has the number `14`: they are 1 to 13, 15, 21 to 27 and 31 to 36"
+                .to_string(),
         ),
         (
             &["explain", "28"],
-            "no refusal has the number `28`: they are 1 to 13, 21 to 27 and 31 to 36".to_string(),
+            "no refusal has the number `28`: they are 1 to 13, 15, 21 to 27 and 31 to 36"
+                .to_string(),
         ),
         (
             &["explain", "+7"],
-            "no refusal has the number `+7`: they are 1 to 13, 21 to 27 and 31 to 36".to_string(),
+            "no refusal has the number `+7`: they are 1 to 13, 15, 21 to 27 and 31 to 36"
+                .to_string(),
         ),
         (
             &["explain", "263"],
-            "no refusal has the number `263`: they are 1 to 13, 21 to 27 and 31 to 36".to_string(),
+            "no refusal has the number `263`: they are 1 to 13, 15, 21 to 27 and 31 to 36"
+                .to_string(),
         ),
     ] {
         let expected = ran(2, "", &format!("printbox: {line}\n"));
@@ -336,7 +341,7 @@ fn explain() {
     let mut told = Vec::new();
     for number in 0..=255 {
         let sentence = run(&["explain", &number.to_string()]);
-        let is_refusal = matches!(number, 1..=13 | 21..=27 | 31..=36);
+        let is_refusal = matches!(number, 1..=13 | 15 | 21..=27 | 31..=36);
         assert_eq!(sentence.status, if is_refusal { 0 } else { 2 }, "{number}");
         if is_refusal {
             assert_eq!(sentence.error, "");
@@ -350,10 +355,11 @@ fn explain() {
     // The help names just these numbers.
     let help = run(&["explain", "--help"]).output;
     let words: Vec<&str> = help.split([' ', '\n', ',', '.']).collect();
-    let named: BTreeSet<u8> = words
+    let ranges = words
         .windows(3)
         .filter(|words| words[1] == "to")
-        .flat_map(|words| words[0].parse().unwrap()..=words[2].parse().unwrap())
-        .collect();
+        .flat_map(|words| words[0].parse().unwrap()..=words[2].parse().unwrap());
+    let single = words.iter().filter_map(|word| word.parse().ok());
+    let named: BTreeSet<u8> = ranges.chain(single).collect();
     assert_eq!(Vec::from_iter(named), told);
 }

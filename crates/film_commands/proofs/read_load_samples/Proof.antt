@@ -42,6 +42,20 @@ returns-2 c = λ s least.
     (load-samples-past (a .load .now) (words (a .args .now)) least _ (x .before .long .ensures) (omega (arith, length-words (a .args .now)))
     (past-none _ (sym (c .enum-told .given .1) ∙ x .array-extent .ensures)))
 
+padding-set-requires : tie.Need-padding-set-requires
+padding-set-requires c κs = tt
+
+returns-3 : tie.Need-returns-3
+returns-3 c = λ s least.
+    let k = c .before .before in
+    let x = k .before .before .before in
+    let a = x .before .before .before .before .before .args in
+    let n = k .before .r .given in
+    refused-at (a .p) 15 _
+    (load-samples-there (a .load .now) (words (a .args .now)) least _ (x .before .long .ensures) (n .0 .0) refl refl
+    (omega (arith, length-words (a .args .now))) (words-some _ _ (sym (n .1) ∙ x .array-extent .ensures))
+    (sym (c .before .padding-set .ensures) ∙ c .if2 .taken))
+
 word-requires : tie.Need-word-requires
 word-requires c κs = tt
 
@@ -50,23 +64,27 @@ word-requires-2 c κs = tt
 
 add-t8 : tie.Need-add-t8
 add-t8 c =
-    let x = c .before .before .before .before .before in
+    let k = c .before .before .before .before in
+    let x = k .before .before .before in
     let a = x .before .before .before .before .before .args in
-    let n = c .before .before .before .r .given in
+    let n = k .before .r .given in
     omega (arith, array-room (a .load .now) (2 + x .before .long .result) (n .0 .0) (words-some _ _ (sym (n .1) ∙ x .array-extent .ensures)))
 
 add-t7 : tie.Need-add-t7
 add-t7 c = omega arith
 
-returns-3 : tie.Need-returns-3
+returns-4 : tie.Need-returns-4
 unfolding commandOf partFor
-returns-3 c = λ s least.
-    let x = c .before .before .before .before .before in
+returns-4 c = λ s least.
+    let d = c .before .before in
+    let k = d .before .before in
+    let x = k .before .before .before in
     let a = x .before .before .before .before .before .args in
-    let n = c .before .before .before .r .given in
+    let n = k .before .r .given in
     whole-at (a .p) 4 _ _ _ _
     (load-samples-there (a .load .now) (words (a .args .now)) least _ (x .before .long .ensures) (n .0 .0) (c .before .word .ensures) (c .word2 .ensures)
-    (omega (arith, length-words (a .args .now))) (words-some _ _ (sym (n .1) ∙ x .array-extent .ensures)))
+    (omega (arith, length-words (a .args .now))) (words-some _ _ (sym (n .1) ∙ x .array-extent .ensures))
+    (sym (d .before .padding-set .ensures) ∙ d .if2 .left))
     refl
 
 pub read-load-samples-spec : {M : Type 1} → statement M
@@ -81,8 +99,10 @@ read-load-samples-spec =
     enum-known-r
     enum-told
     returns-2
+    padding-set-requires
+    returns-3
     word-requires
     word-requires-2
     add-t8
     add-t7
-    returns-3)
+    returns-4)

@@ -93,6 +93,25 @@ returns-5 c = λ s least.
     (e .before .word .ensures) (e .if2 .left) (n .0 .0) (words-some _ _ (sym (n .1) ∙ x .array-extent .ensures)) (d .before .word2 .ensures) (d .if3 .left)
     (c .before .word3 .ensures) (c .if4 .taken))
 
+add-padding-set : tie.Need-add-padding-set
+add-padding-set c = omega arith
+
+padding-set-requires : tie.Need-padding-set-requires
+padding-set-requires c κs = tt
+
+returns-6 : tie.Need-returns-6
+returns-6 c = λ s least.
+    let g = c .before .before in
+    let d = g .before .before in
+    let x = d .before .before .before .before .before in
+    let e = x .before .before in
+    let a = e .before .before .before .before .before .args in
+    let n = d .before .before .before .r .given in
+    refused-at (a .p) 15 _
+    (tile-there (a .load .now) (words (a .args .now)) least _ _ (x .before .long .ensures) (omega (arith, length-words (a .args .now)))
+    (e .before .word .ensures) (e .if2 .left) (n .0 .0) (words-some _ _ (sym (n .1) ∙ x .array-extent .ensures)) (d .before .word2 .ensures) (d .if3 .left)
+    (g .before .word3 .ensures) (g .if4 .left) (sym (c .before .padding-set .ensures) ∙ c .if5 .taken))
+
 -- where the array was measured
 abbrev measured : tie.Else4 → tie.After-array-extent
 measured c = c .before .before .before .before .before .before .before
@@ -109,19 +128,20 @@ few c =
     let n = d .before .before .before .r .given in
     array-room (a .load .now) (2 + x .before .long .result + 3) (n .0 .0) (words-some _ _ (sym (n .1) ∙ x .array-extent .ensures))
 
-add-t8 : tie.Need-add-t8
-add-t8 c = omega (arith, few c)
-
 add-t9 : tie.Need-add-t9
-add-t9 c = omega (arith, few c)
+add-t9 c = omega (arith, few (c .before .before))
 
-add-t20 : tie.Need-add-t20
-add-t20 c = omega arith
+add-t8 : tie.Need-add-t8
+add-t8 c = omega (arith, few (c .before .before))
 
-returns-6 : tie.Need-returns-6
+add-t22 : tie.Need-add-t22
+add-t22 c = omega arith
+
+returns-7 : tie.Need-returns-7
 unfolding commandOf partFor
-returns-6 c = λ s least.
-    let d = c .before .before in
+returns-7 c = λ s least.
+    let g = c .before .before in
+    let d = g .before .before in
     let x = d .before .before .before .before .before in
     let e = x .before .before in
     let a = e .before .before .before .before .before .args in
@@ -129,7 +149,7 @@ returns-6 c = λ s least.
     whole-at (a .p) 3 _ _ _ _
     (tile-there (a .load .now) (words (a .args .now)) least _ _ (x .before .long .ensures) (omega (arith, length-words (a .args .now)))
     (e .before .word .ensures) (e .if2 .left) (n .0 .0) (words-some _ _ (sym (n .1) ∙ x .array-extent .ensures)) (d .before .word2 .ensures) (d .if3 .left)
-    (c .before .word3 .ensures) (c .if4 .left))
+    (g .before .word3 .ensures) (g .if4 .left) (sym (c .before .padding-set .ensures) ∙ c .if5 .left))
     refl
 
 pub read-tile-spec : {M : Type 1} → statement M
@@ -154,7 +174,10 @@ read-tile-spec =
     add-word-2
     word-requires-3
     returns-5
-    add-t8
+    add-padding-set
+    padding-set-requires
+    returns-6
     add-t9
-    add-t20
-    returns-6)
+    add-t8
+    add-t22
+    returns-7)

@@ -109,13 +109,12 @@ fn runs_and_samples() {
         picture(4, 16, &[8, 1, 0, 2], &load(&words)),
         [0, 0, 0x7C00, 0x8000]
     );
-    // Padding bits are not looked at.
     assert_eq!(
-        picture(3, 16, &[9, 1, 2, 1, 3, 0xBFFF], &NO_LOAD),
+        picture(3, 16, &[9, 1, 2, 1, 3, 0xA000], &NO_LOAD),
         [0, 0x2800, 0]
     );
     assert_eq!(
-        picture(3, 16, &[10, 0, 0, 1, 2], &load(&[1, 3, 0xBFFF])),
+        picture(3, 16, &[10, 0, 0, 1, 2], &load(&[1, 3, 0xA000])),
         [0, 0x2800, 0]
     );
 }

@@ -130,6 +130,29 @@ fn in_one_command() {
 }
 
 #[test]
+fn padding() {
+    let refused = Answer::Refused(15, 14);
+    let samples = |array: &[u16]| commands(&[&[9, 0, 0], array].concat(), &[]);
+    assert_eq!(samples(&[1, 4, 0xF001]), refused);
+    assert_eq!(samples(&[1, 4, 0x0800]), refused);
+    assert_eq!(samples(&[1, 4, 0xF000]), Answer::Done(1, 0));
+    assert_eq!(samples(&[1, 16, 0xFFFF]), Answer::Done(1, 0));
+    assert_eq!(samples(&[2, 17, 0xFFFF, 0x8000, 0, 0x4000]), refused);
+    assert_eq!(samples(&[1, 17, 0xFFFF, 0x8000]), Answer::Done(1, 0));
+    assert_eq!(samples(&[2, 4, 0xF001]), Answer::Refused(6, 14));
+    // Where it is painted does not matter.
+    assert_eq!(commands(&[9, 9, 99, 1, 4, 0xF001], &[]), refused);
+    // In the load, where a command names it.
+    let load = [1, 4, 0xF000, 0, 0, 0, 1, 4, 0xF001, 2, 4, 0xF001];
+    assert_eq!(commands(&[10, 0, 0, 0, 0], &load), Answer::Done(1, 0));
+    assert_eq!(commands(&[10, 6, 0, 0, 0], &load), refused);
+    assert_eq!(commands(&[10, 9, 0, 0, 0], &load), Answer::Refused(9, 14));
+    assert_eq!(commands(&[4, 0, 3, 0], &load), refused);
+    assert_eq!(commands(&[4, 2, 3, 0], &load), Answer::Refused(13, 15));
+    assert_eq!(commands(&[4, 0, 6, 0], &load), Answer::Refused(9, 14));
+}
+
+#[test]
 fn draw_order() {
     let drawn = |words: &[u16], page, band, room: usize| {
         let mut all = HERALD.to_vec();

@@ -1,6 +1,6 @@
-//! A command that is refused for an argument is refused at that argument's word, whatever stands
-//! before it and behind it: random sheets with one such command at a known place, through the
-//! library and `reference`.
+//! A command that is refused for an argument is refused at that argument's word, and one that is
+//! refused for its padding at its code, whatever stands before it and behind it: random sheets with
+//! one such command at a known place, through the library and `reference`.
 
 mod common;
 
@@ -8,19 +8,34 @@ use common::rounds::rounds;
 use common::{Answer, Call, Entry};
 use generate::Rng;
 
-/// Bands have 2 lines of 16 dots; the load has a tile of one line of one dot.
+/// Bands have 2 lines of 16 dots. The load has a tile of one line of one dot, and at its address 3
+/// that tile's array; at 6 and 9 the same with a padding bit set; at 9 and 12 a tile and an array of
+/// two such lines, of which the load has the first.
 const LINES: u16 = 2;
-const LOAD: [u16; 8] = [6, 0, 0, 0, 0, 1, 1, 0x8000];
+const LOAD_WORDS: u16 = 15;
+const LOAD: [u16; 17] = [
+    LOAD_WORDS, 0, 0, 0, 0, 1, 1, 0x8000, 0, 0, 0, 1, 1, 0x8001, 2, 1, 0x8001,
+];
 
-/// An argument that a command may not have.
+/// What a command may not have: an argument, or a bit in the padding of what it names.
 #[derive(Clone, Copy, Debug)]
 enum Fault {
     Falling,
     Oversized,
     Mode,
+    Padding,
+    TilePadding,
+    LoadPadding,
 }
 
-const FAULTS: [Fault; 3] = [Fault::Falling, Fault::Oversized, Fault::Mode];
+const FAULTS: [Fault; 6] = [
+    Fault::Falling,
+    Fault::Oversized,
+    Fault::Mode,
+    Fault::Padding,
+    Fault::TilePadding,
+    Fault::LoadPadding,
+];
 
 impl Fault {
     /// The refusal's number, and its place in words after the code.
@@ -29,11 +44,12 @@ impl Fault {
             Fault::Falling => (8, 1),
             Fault::Oversized => (8, 2),
             Fault::Mode => (13, 1),
+            Fault::Padding | Fault::TilePadding | Fault::LoadPadding => (15, 0),
         }
     }
 
-    /// The words of such a command, those of a priority that has to stand before it, if any, and
-    /// the words of the command with the nearest argument that passes.
+    /// The words of a priority that has to stand before it, if any, those of such a command, and
+    /// those of the same with the nearest argument, or the padding, that passes.
     fn words(self, rng: &mut Rng) -> (Vec<u16>, Vec<u16>, Vec<u16>) {
         match self {
             Fault::Falling => {
@@ -49,8 +65,34 @@ impl Fault {
                 let mode = rng.pick(&[2, 3, 0x0100, 0x8000, 0xFFFF]);
                 (vec![], vec![4, mode, 0, 0], vec![4, 1, 0, 0])
             }
+            Fault::Padding => padding(rng),
+            Fault::TilePadding => {
+                let mode = rng.word() & 1;
+                (vec![], vec![4, mode, 6, 0], vec![4, mode, 0, 0])
+            }
+            Fault::LoadPadding => {
+                let (s_min, f_min) = (rng.word(), rng.word());
+                let of = |address| vec![10, address, 0, s_min, f_min];
+                (vec![], of(9), of(3))
+            }
         }
     }
+}
+
+/// Samples of one to four lines with padding: nothing before them, with one bit of it set, and with
+/// none.
+fn padding(rng: &mut Rng) -> (Vec<u16>, Vec<u16>, Vec<u16>) {
+    let (lines, bits) = (1 + rng.index(4), 1 + rng.index(15));
+    let line_words = 1 + rng.index(3);
+    let dots = 16 * line_words - bits;
+    let mut good = vec![9, rng.word(), rng.word(), lines as u16, dots as u16];
+    for _ in 0..lines {
+        good.extend((1..line_words).map(|_| rng.word()));
+        good.push(rng.word() >> bits << bits);
+    }
+    let mut bad = good.clone();
+    bad[4 + line_words * (1 + rng.index(lines))] |= 1 << rng.index(bits);
+    (vec![], bad, good)
 }
 
 fn priority(value: u32) -> Vec<u16> {
@@ -83,7 +125,10 @@ fn filler(rng: &mut Rng) -> Vec<u16> {
             2 => vec![4, rng.word() & 1, 0, 0],
             3 => vec![5, rng.word(), rng.word(), rng.word(), rng.word()],
             4 => vec![7, rng.word(), 1, rng.word(), 0x8000 | rng.word()],
-            _ => vec![9, rng.word(), rng.word(), 1, 17, rng.word(), rng.word()],
+            _ => {
+                let words = [rng.word(), rng.word() & 0x8000];
+                vec![9, rng.word(), rng.word(), 1, 17, words[0], words[1]]
+            }
         });
     }
     words
@@ -106,7 +151,8 @@ fn bytes(words: &[u16]) -> Vec<u8> {
 /// The sheet of these pages.
 fn sheet(pages: &Pages) -> Vec<u8> {
     let bands = pages[0].len() as u16;
-    let mut words = vec![0xAAAA, 1, 0, 600, 600, LINES * bands, 16, LINES, 6, 0, 1];
+    let mut words = vec![0xAAAA, 1, 0, 600, 600, LINES * bands, 16, LINES];
+    words.extend([LOAD_WORDS, 0, 1]);
     words.push(pages.len() as u16);
     for page in pages {
         words.push(bands);
@@ -157,8 +203,8 @@ fn answers(pages: &Pages, refused: Option<(usize, usize, Answer)>) -> Result<(),
     Ok(())
 }
 
-/// One such command in a random sheet: told at its argument; with the argument mended all passes;
-/// cut, as the last command of its band, it is 6 at its code.
+/// One such command in a random sheet: told at its word; mended, all passes; cut, as the last
+/// command of its band, it is 6 at its code.
 fn round(rng: &mut Rng, fault: Fault) -> Result<(), String> {
     let mut pages = good_pages(rng);
     let (page, band) = (rng.index(pages.len()), rng.index(pages[0].len()));
@@ -185,11 +231,22 @@ fn round(rng: &mut Rng, fault: Fault) -> Result<(), String> {
         pages[page][band] = [&first[..], &past, &last].concat();
         answers(&pages, Some((page, band, told)))?;
     }
+    // Before the padding is told the mode, and that the load cuts a tile or an array.
+    let before = match fault {
+        Fault::Mode => Some((vec![4, bad[1], 6, 0], told)),
+        Fault::TilePadding => Some((vec![4, bad[1], 9, 0], Answer::Refused(9, code as u64))),
+        Fault::LoadPadding => Some((vec![10, 12, 0, 0, 0], Answer::Refused(9, code as u64))),
+        _ => None,
+    };
+    if let Some((command, told)) = before {
+        pages[page][band] = [&first[..], &command, &last].concat();
+        answers(&pages, Some((page, band, told)))?;
+    }
     Ok(())
 }
 
 #[test]
-fn told_at_the_argument() {
+fn told_at_its_word() {
     for fault in FAULTS {
         let mut sheets = 0;
         rounds(2_000, |seed| {
