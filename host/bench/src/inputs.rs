@@ -226,8 +226,8 @@ pub fn mixed_film(length: usize, pages: usize, size: Size) -> Film {
     check_film(length, pages, size, mixed_band)
 }
 
-/// A sheet for the check alone, all samples: each band has one array of lines of a word, 15 dots
-/// and a padding bit.
+/// A sheet for the check alone, all samples: each band has one array whose lines are a word each, 15
+/// dots and a padding bit, which is 0.
 pub fn padded_film(length: usize, pages: usize, size: Size) -> Film {
     check_film(length, pages, size, |share, first| {
         let mut words = vec![9, word(first), 0, word(share - 5), 15];

@@ -29,7 +29,7 @@ pub fn group_end(words: &[u16], place: usize) -> Option<usize> {
 }
 
 /// The place after the sample array at a place, if it is whole in the words.
-pub fn array_end(words: &[u16], place: usize) -> Option<usize> {
+fn array_end(words: &[u16], place: usize) -> Option<usize> {
     let lines = usize::from(*words.get(place)?);
     let dots = usize::from(*words.get(place + 1)?);
     let next = place + 2 + lines * dots.div_ceil(16);
@@ -101,7 +101,7 @@ pub fn padding(dots: u64) -> u16 {
 }
 
 /// Whether every padding bit of the array that stands whole at a place is 0.
-pub fn is_padded(words: &[u16], place: usize) -> bool {
+fn is_padded(words: &[u16], place: usize) -> bool {
     let dots = u64::from(words[place + 1]);
     let (lines, step) = (usize::from(words[place]), dots.div_ceil(16) as usize);
     (1..=lines).all(|line| words[place + 1 + line * step] & padding(dots) == 0)
