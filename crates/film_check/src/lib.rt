@@ -1,4 +1,6 @@
 // Sheets: the check, which tests herald and load, and then walks over pages, bands and commands.
+#![tactic(auto)]
+
 ghost use Rattle.std.specs.Prelude.{◌≡◌};
 ghost use Rattle.film_words.specs.Words.{words};
 ghost use Rattle.film_words.specs.Load.{load_words};
@@ -17,7 +19,7 @@ use refusal::{Refusal, Tested};
 const WORDS_AFTER: u8 = 10;
 
 // The number of pages, or a refusal.
-#[derive(Drop)]
+#[derive(Clone, Copy)]
 pub enum Checked {
     Pages(usize),
     Refused(Refusal),

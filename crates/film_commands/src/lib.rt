@@ -1,5 +1,7 @@
 // The command reader. A command is read from a sheet at any place; what it names in the sheet or the load stays there, and is handed out
 // uncopied.
+#![tactic(auto)]
+
 ghost use Rattle.std.specs.Prelude.{◌≡◌, List, ℕ, ◌+◌, ◌<◌, ◌≤◌, ◌^◌, length};
 ghost use Rattle.film_words.specs.Words.{words};
 ghost use Rattle.film_words.specs.Parts.{part_of};
@@ -11,7 +13,7 @@ use film_words::{Extent, array_extent, group_extent, long, padding_set, part, wo
 use refusal::Refusal;
 
 // Where the words of a run group or a sample array stand: in the load file or in the sheet, from place `from` up to, not including, `to`.
-#[derive(Drop)]
+#[derive(Clone, Copy)]
 pub struct Source {
     pub load: bool,
     pub from: usize,
@@ -19,7 +21,7 @@ pub struct Source {
 }
 
 // A mask: its numbers, and where the words of a group or an array stand.
-#[derive(Drop)]
+#[derive(Clone, Copy)]
 pub enum Mask {
     Rectangle {
         s_min: u16,
@@ -47,7 +49,7 @@ pub enum Mask {
 }
 
 // A command. A tile stands in the load file from place `from` up to, not including, `to`.
-#[derive(Drop)]
+#[derive(Clone, Copy)]
 pub enum Command {
     Priority(u32),
     Ink,
@@ -61,14 +63,14 @@ pub enum Command {
 }
 
 // A whole command and the place after it, or a refusal's number and place.
-#[derive(Drop)]
+#[derive(Clone, Copy)]
 pub enum Read {
     Whole(Command, usize),
     Refused(Refusal),
 }
 
 // Ink is `Solid(true)`, clear is `Solid(false)`; a tile stands in the load file as in a command.
-#[derive(Drop)]
+#[derive(Clone, Copy)]
 pub enum Colour {
     Solid(bool),
     Tile {

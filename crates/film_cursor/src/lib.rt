@@ -1,4 +1,6 @@
 // A cursor over a band's commands, by value, and the test of a band.
+#![tactic(auto)]
+
 ghost use Rattle.std.specs.Prelude.{◌≡◌, true};
 ghost use Rattle.refusal.specs.Code.{tested_as};
 ghost use Rattle.film_words.specs.Words.{words};
@@ -11,7 +13,7 @@ use film_commands::{Colour, Command, Mask, Read, read_command};
 use refusal::{Refusal, Tested};
 
 // A cursor over a band's commands: the place of the next one, and the priority and the colour that hold there.
-#[derive(Drop)]
+#[derive(Clone, Copy)]
 pub struct Cursor {
     pub at: usize,
     pub least: u32,
@@ -20,7 +22,7 @@ pub struct Cursor {
 
 // What stands at a cursor: a mask, to be painted in the cursor's colour, and the place after it; another command, and the cursor after it; the band's
 // end; or a refusal.
-#[derive(Drop)]
+#[derive(Clone, Copy)]
 pub enum Step {
     Paint(Mask, usize),
     Other(Cursor),

@@ -1,4 +1,6 @@
 // Films: the draw of one band of a page.
+#![tactic(auto)]
+
 ghost use Rattle.std.specs.Prelude.{◌≡◌, ◌*◌, ◌<◌, ◌≤◌, length, take};
 ghost use Rattle.row.specs.Counts.{ones_of};
 ghost use Rattle.film_words.specs.Words.{words};

@@ -1,4 +1,6 @@
 // The place of a trapezoid's edge on a line.
+#![tactic(auto)]
+
 ghost use Rattle.std.specs.Prelude.{◌≡◌, ◌^◌, ◌<◌, ◌≤◌};
 ghost use Rattle.std.specs.Int.Signed.{mag};
 ghost use Rattle.film_edges.specs.Edges.{ceil_z, edge_at};

@@ -1,4 +1,6 @@
 // The herald of a sheet: the test of herald and load, and what follows from the herald's sizes.
+#![tactic(auto)]
+
 ghost use Rattle.std.specs.Prelude.{◌≡◌, [], ◌∷◌};
 ghost use Rattle.refusal.specs.Answers.{and_then};
 ghost use Rattle.refusal.specs.Tables.{refuse, first};

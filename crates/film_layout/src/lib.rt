@@ -1,4 +1,6 @@
 // The walk over the pages and bands of a sheet, by value; and the way to one page and to one band of it.
+#![tactic(auto)]
+
 ghost use Rattle.std.specs.Prelude.{◌≡◌};
 ghost use Rattle.film_words.specs.Words.{words};
 ghost use Rattle.film_herald.specs.Herald.{herald_of, band_count};
@@ -17,7 +19,7 @@ const WRONG_COUNT: u8 = 5;
 const NO_BAND: u8 = 11;
 
 // At place `at` `bands` bands of a page are to come, and then `pages` pages.
-#[derive(Drop)]
+#[derive(Clone, Copy)]
 pub struct Walk {
     pub at: usize,
     pub bands: usize,
@@ -26,7 +28,7 @@ pub struct Walk {
 
 // What stands there: a page's count; a band's commands, from place `from` up to, not including, `end`; the end of the pages; or a count that is
 // wrong or missing. The walk goes on after the first two.
-#[derive(Drop)]
+#[derive(Clone, Copy)]
 pub enum Node {
     Page(Walk),
     Band { from: usize, end: usize, next: Walk },
@@ -35,14 +37,14 @@ pub enum Node {
 }
 
 // The walk after the count of a page that was sought, or a refusal.
-#[derive(Drop)]
+#[derive(Clone, Copy)]
 pub enum Opened {
     Bands(Walk),
     Refused(Refusal),
 }
 
 // The places of a band's first command and of what comes after its last, or a refusal.
-#[derive(Drop)]
+#[derive(Clone, Copy)]
 pub enum Found {
     At(usize, usize),
     Refused(Refusal),

@@ -1,5 +1,7 @@
 // Masks in a colour, inked into the rows that they have in a band buffer: a loop for each kind. Each row is lent as its own part of the buffer. `tile` are
 // the words of the colour's tile.
+#![tactic(auto)]
+
 ghost use Rattle.std.specs.Prelude.{◌≡◌, ◌&&◌, ◌+◌, ◌*◌, ◌≤◌, ◌<◌, leb, ltb, eqb, length};
 ghost use Rattle.film_words.specs.Words.{words};
 ghost use Rattle.film_commands.specs.Commands.{rectangle, trapezoid, runs, samples};

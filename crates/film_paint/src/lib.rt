@@ -1,5 +1,7 @@
 // Painting: a stretch or a line of samples in a colour, into a line's row. Rows are written by the functions of `row` alone. s is a line of the film, f a
 // dot of it, and `tile` are the words of the colour's tile.
+#![tactic(auto)]
+
 ghost use Rattle.std.specs.Prelude.{◌≡◌, true, ◌&&◌, ◌+◌, ◌-◌, ◌≤◌, leb, ltb, length, drop};
 ghost use Rattle.row.specs.Dots.{dot_at, row_of};
 ghost use Rattle.row.specs.Stretches.{with_dot};
@@ -16,7 +18,7 @@ use film_words::word;
 use row::{fill, set_dot};
 
 // The rows of a band buffer: `rows` rows, of which the first is line `top`; each holds the `width` dots from dot `left` on.
-#[derive(Drop)]
+#[derive(Clone, Copy)]
 pub struct Frame {
     pub top: u16,
     pub rows: u16,

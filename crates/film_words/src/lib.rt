@@ -1,5 +1,7 @@
 // Words of a file, and what stands in them: long numbers, run groups and sample arrays. A file is a slice of bytes, two to a word, the high
 // byte first; places count words from 0. Every function takes any slice and any place.
+#![tactic(auto)]
+
 ghost use Rattle.std.specs.Prelude.{◌≡◌, drop};
 ghost use Rattle.film_words.specs.Words.{words, at, long_at};
 ghost use Rattle.film_words.specs.Parts.{part_of};
@@ -9,7 +11,7 @@ ghost use Rattle.film_words.specs.Groups.{group_extent};
 ghost use Rattle.film_words.specs.Answers.{extent_of};
 
 // How many words something takes, or that it runs past the end of its file.
-#[derive(Drop)]
+#[derive(Clone, Copy)]
 pub enum Extent {
     Words(usize),
     Past,

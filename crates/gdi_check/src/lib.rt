@@ -1,4 +1,6 @@
 // The job check: a walk over the job, a step at a time.
+#![tactic(auto)]
+
 ghost use Rattle.std.specs.Prelude.{◌≡◌, ◌+◌, ◌<◌, ◌≤◌, length, drop};
 ghost use Rattle.gdi_jobs.specs.Jobs.{between, in_page, with_sum, step, walk, job_answer, longest};
 ghost use Rattle.gdi_check.specs.Answers.{checked_as, state_of, step_of};
@@ -8,14 +10,14 @@ use gdi_jobs::{HEAD, LONGEST};
 use gdi_parse::{Group, Next, group_at, next_at};
 
 // The number of pages, or a refusal's number and place.
-#[derive(Drop)]
+#[derive(Clone, Copy)]
 pub enum Checked {
     Pages(usize),
     Refused(u8, usize),
 }
 
 // In a page: the pages before it, its width and height, its whole lines, the sum of the commands of the next, the bytes left of the block.
-#[derive(Drop)]
+#[derive(Clone, Copy)]
 struct Page {
     pages: usize,
     width: usize,
@@ -26,14 +28,14 @@ struct Page {
 }
 
 // Where the walk stands.
-#[derive(Drop)]
+#[derive(Clone, Copy)]
 enum State {
     Between(usize),
     InPage(Page),
 }
 
 // On to a state, past so many bytes; or the number of pages; or a refusal's number and its place from here.
-#[derive(Drop)]
+#[derive(Clone, Copy)]
 enum Step {
     Onward(State, usize),
     Done(usize),

@@ -1,5 +1,6 @@
 // Sagem GDI jobs. What they mean stands in specs/, and laws about it in proofs/; the code is in the crates above, and these constants are what they
 // share.
+#![tactic(auto)]
 
 // The head of a job.
 pub const HEAD: [u8; 86] =

@@ -1,4 +1,6 @@
 // What stands in a GDI job at a place: a group of bytes, or a command of a line.
+#![tactic(auto)]
+
 ghost use Rattle.std.specs.Prelude.{◌≡◌, ◌||◌, ◌+◌, ◌≤◌, ◌<◌, eqb, length, drop, get_or};
 ghost use Rattle.gdi_jobs.specs.Commands.{command};
 ghost use Rattle.gdi_jobs.specs.Groups.{any, fits, number_at, fields, page_head_in, group};
@@ -8,7 +10,7 @@ ghost use Rattle.gdi_parse.specs.Answers.{group_of, next_of};
 use gdi_jobs::WIDEST;
 
 // What stands where a group may stand.
-#[derive(Drop)]
+#[derive(Clone, Copy)]
 pub enum Group {
     Cut,
     PageHead(usize, usize),
@@ -20,7 +22,7 @@ pub enum Group {
 }
 
 // What comes next in a page.
-#[derive(Drop)]
+#[derive(Clone, Copy)]
 pub enum Next {
     ToBlock(usize),
     ToEnd,

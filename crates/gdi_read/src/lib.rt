@@ -1,4 +1,6 @@
 // The line reader. It goes over a line twice: first it reads the line, then it writes the row; so a refusal leaves the row as it is.
+#![tactic(auto)]
+
 ghost use Rattle.std.specs.Prelude.{◌≡◌, false, ◌*◌, ◌≤◌, length, drop};
 ghost use Rattle.gdi_jobs.specs.Lines.{line_from, line_at, row_after, answer_of};
 ghost use Rattle.gdi_read.specs.Answers.{line_read_as};
@@ -9,7 +11,7 @@ use gdi_parse::{Next, next_at};
 use row::fill;
 
 // The next place after a line, or after the page end that stands where the line would start; or a refusal's number and place.
-#[derive(Drop)]
+#[derive(Clone, Copy)]
 pub enum LineRead {
     Line(usize, usize),
     PageEnd(usize, usize),

@@ -1,4 +1,6 @@
 // The writer of rows: a row as a line of a Sagem GDI job, one command for each run of a colour, in blocks.
+#![tactic(auto)]
+
 ghost use Rattle.std.specs.Prelude.{◌≡◌, Bool, cond, [], ◌∷◌, ◌++◌, ◌+◌, ◌*◌, ◌≤◌, leb, length, drop};
 ghost use Rattle.row.specs.Dots.{bit};
 ghost use Rattle.gdi_jobs.specs.Commands.{run};
@@ -63,7 +65,7 @@ fn put_command(black: bool, dots: usize, at: usize, output: &mut [u8])
 }
 
 // A block: the place of its head, and how many bytes it has.
-#[derive(Drop)]
+#[derive(Clone, Copy)]
 struct Block {
     head: usize,
     size: usize,

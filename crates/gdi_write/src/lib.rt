@@ -1,6 +1,8 @@
 // Writers of Sagem GDI jobs: heads and ends; and paper. The writer of rows is in gdi_rows. Each puts its bytes at the beginning of the output that the
 // caller lends, and answers how many they are; the bytes of the output beyond them stay. A refusal has a number and place 0, and then the output
 // stays whole.
+#![tactic(auto)]
+
 ghost use Rattle.std.specs.Prelude.{◌≡◌, length};
 ghost use Rattle.gdi_jobs.specs.Writers.{in_room, head_writing, page_end_writing, document_end_writing, page_head_writing, answer_of, output_after};
 ghost use Rattle.gdi_write.specs.Paper.{a4, a5, letter, monarch, fill_answer};
@@ -9,21 +11,21 @@ ghost use Rattle.gdi_write.specs.Answers.{written_as, filled_as};
 use gdi_jobs::WIDEST;
 
 // The number of bytes that were written, or a refusal's number and place.
-#[derive(Drop)]
+#[derive(Clone, Copy)]
 pub enum Written {
     Bytes(usize),
     Refused(u8, usize),
 }
 
 // The command of a white line, or a refusal's number and place.
-#[derive(Drop)]
+#[derive(Clone, Copy)]
 pub enum Filled {
     Linefill(u16),
     Refused(u8, usize),
 }
 
 // A paper format: width and height in dots, and the number that stands for it in a page head.
-#[derive(Drop)]
+#[derive(Clone, Copy)]
 pub struct Paper {
     pub width: u16,
     pub height: u16,

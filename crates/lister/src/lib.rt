@@ -1,4 +1,6 @@
 // Listings: what the check answers for a sheet with an empty load, then each band of each page as it is drawn.
+#![tactic(auto)]
+
 ghost use Rattle.std.specs.Prelude.{◌≡◌};
 ghost use Rattle.film_check.specs.Promise.{checked_as};
 ghost use Rattle.lister.specs.Listing.{list_answer};

@@ -1,6 +1,8 @@
 // The library for programs in C and Rust: host/include/printbox.h declares it. Each entry point of films and jobs gives its answer as three numbers: kind,
 // a and b. Kind 0: done, with values that the entry point names; kind 1: refused, a is the number and b the place; kind 2: page end, a and b are the next
 // place. Those of the strip printer go by a record and an answer of numbers.
+#![tactic(auto)]
+
 ghost use Rattle.std.specs.Prelude.{◌≡◌, length};
 ghost use Rattle.film_check.specs.Check.{check_answer};
 ghost use Rattle.film_drawing.specs.Draw.{draw_answer, buffer_after};

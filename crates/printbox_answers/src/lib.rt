@@ -1,5 +1,7 @@
 // The numbers of each answer, for the library's callers: kind, a and b. Kind 0: done, with the answer's values; kind 1: refused, a is the number and b
 // the place; kind 2: page end, a and b are the next place.
+#![tactic(auto)]
+
 ghost use Rattle.std.specs.Prelude.{◌≡◌};
 ghost use Rattle.film_check.specs.Promise.{checked_as};
 ghost use Rattle.film_drawing.specs.Promise as draw;

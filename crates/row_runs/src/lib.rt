@@ -1,4 +1,6 @@
 // Runs of like dots in a row, and the dots past a width. A row is that of crate `row`.
+#![tactic(auto)]
+
 ghost use Rattle.std.specs.Prelude.{◌≡◌, ◌-◌, ◌*◌, ◌≤◌, max};
 ghost use Rattle.row.specs.Dots.{dot_at};
 ghost use Rattle.row_runs.specs.Runs.{first_not, run_end};

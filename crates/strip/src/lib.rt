@@ -1,10 +1,12 @@
 // The strip printer's receiver: its record, and what its functions share.
+#![tactic(auto)]
+
 ghost use Rattle.std.specs.Prelude.{◌≡◌};
 ghost use Rattle.strip.specs.Packets.{number};
 ghost use Rattle.strip.specs.Step.{at, unusable, new_record};
 
 // Which byte is awaited: one that opens a mark, its second, the four of a header, one of the body, the two of the checksum, the two clock bytes.
-#[derive(Drop)]
+#[derive(Clone, Copy)]
 pub enum Phase {
     Hunt,
     Mark,
@@ -20,7 +22,7 @@ pub enum Phase {
 }
 
 // What the next byte of a coded body is: the first of a run; a byte to be copied so many times; one of a literal run, with so many after it.
-#[derive(Drop)]
+#[derive(Clone, Copy)]
 pub enum Run {
     First,
     Copied(u8),
@@ -29,7 +31,7 @@ pub enum Run {
 
 // A receiver's record: the packet's command, indicator and length, how many bytes of its body came, the sum so far, the low byte of its length or
 // checksum; the host's status; how many bands wait; and the body.
-#[derive(Drop)]
+#[derive(Clone, Copy)]
 pub struct Receiver {
     pub phase: Phase,
     pub command: u8,
@@ -44,7 +46,7 @@ pub struct Receiver {
 }
 
 // What a byte is answered. A byte that is taken and gets no reply here is answered 0 on the line.
-#[derive(Drop)]
+#[derive(Clone, Copy)]
 pub enum Answer {
     Reply(u8),
     Initialized,
@@ -55,7 +57,7 @@ pub enum Answer {
     Refused(u8, usize),
 }
 
-#[derive(Drop)]
+#[derive(Clone, Copy)]
 pub struct Stepped {
     pub rec: Receiver,
     pub answer: Answer,

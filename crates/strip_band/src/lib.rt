@@ -1,4 +1,6 @@
 // A band out of a body, plain or coded.
+#![tactic(auto)]
+
 ghost use Rattle.std.specs.Prelude.{◌≡◌, cond, [], ◌+◌, ◌≤◌, eqb, length, replicate};
 ghost use Rattle.std.proofs.Math.Seq.{paste};
 ghost use Rattle.strip.specs.Coding.{run_of, left_of, whole, expand};
@@ -8,14 +10,14 @@ ghost use Rattle.strip_band.specs.Puts.{expansion_from, Puts};
 use strip::Run;
 
 // The bytes count only where the band is whole.
-#[derive(Drop)]
+#[derive(Clone, Copy)]
 pub struct Band {
     pub whole: bool,
     pub bytes: [u8; 640],
 }
 
 // How far a band is filled: 641 is too far.
-#[derive(Drop)]
+#[derive(Clone, Copy)]
 struct Filled {
     run: Run,
     at: usize,

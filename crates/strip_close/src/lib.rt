@@ -1,4 +1,6 @@
 // The second checksum byte: the packet acts, or is refused.
+#![tactic(auto)]
+
 ghost use Rattle.std.specs.Prelude.{◌≡◌, ◌≤◌, ◌<◌, length, get_or, take};
 ghost use Rattle.strip.specs.Actions.{action, print, of_data};
 ghost use Rattle.strip.specs.Step.{at, holding, placed, leaves, carried, step_in};

@@ -1,4 +1,6 @@
 // The receiver's record and answers as numbers, for callers in C and Rust.
+#![tactic(auto)]
+
 ghost use Rattle.std.specs.Prelude.{◌≡◌};
 ghost use Rattle.strip.specs.Step.{new_record};
 ghost use Rattle.strip_numbers.specs.Numbers.{phase_of, number_of, receiver_of, record_of, answer_of, done, NumberSteps};
@@ -7,7 +9,7 @@ use strip::{Answer, Phase, Receiver};
 
 // A receiver's record. Phase 0 is the search for a mark; so is any number that names no phase.
 #[repr(C)]
-#[derive(Drop)]
+#[derive(Clone, Copy)]
 pub struct StripRecord {
     pub phase: u8,
     pub command: u8,
@@ -23,7 +25,7 @@ pub struct StripRecord {
 
 // Kind 0: done, with the byte on the line and what the packet did that the byte ends. Kind 1: refused, with number and place.
 #[repr(C)]
-#[derive(Drop)]
+#[derive(Clone, Copy)]
 pub struct StripAnswer {
     pub kind: u8,
     pub reply: u8,
@@ -35,7 +37,7 @@ pub struct StripAnswer {
     pub place: usize,
 }
 
-#[derive(Drop)]
+#[derive(Clone, Copy)]
 pub struct StripStepped {
     pub rec: StripRecord,
     pub answer: StripAnswer,

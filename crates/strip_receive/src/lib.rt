@@ -1,4 +1,6 @@
 // One arriving byte: the record that is lent is taken apart, and stored back.
+#![tactic(auto)]
+
 ghost use Rattle.std.specs.Prelude.{◌≡◌};
 ghost use Rattle.strip.specs.Step.{Steps, with_status};
 

@@ -1,4 +1,6 @@
 // The rows that Print writes: four dots at a time, by a table for the palette.
+#![tactic(auto)]
+
 ghost use Rattle.std.specs.Prelude.{◌≡◌, ◌+◌, ◌*◌, ◌/◌, ◌%◌, ◌^◌, ◌≤◌, ◌<◌, length, get_or};
 ghost use Rattle.strip.specs.Dots.{index_of, shade, tile_byte, listed, printed, printing};
 ghost use Rattle.strip_rows.specs.Table.{four, entry_of};

@@ -1,4 +1,6 @@
 // One byte to the strip printer's receiver, by value.
+#![tactic(auto)]
+
 ghost use Rattle.std.specs.Prelude.{◌≡◌, false, length, if◌then◌else◌, nat_eq};
 ghost use Rattle.strip.specs.Packets.{fitting, add16};
 ghost use Rattle.strip.specs.Step.{noted, after_byte, with_byte, bodied, leaves, taken, unusable, Steps};

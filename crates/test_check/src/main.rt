@@ -2,6 +2,8 @@
 // fields, split by one blank: a name, then the sheet's bytes and the load's in hexadecimal, `-` for none. What is printed is the name with
 // the number of pages, with a refusal's number and place, or with `bad line` where the line has not this form; nothing for an empty line. For a
 // longer input it prints `input too long` alone. What it must print for the file stdin beside src/ is in the file stdout there.
+#![tactic(auto)]
+
 ghost use Rattle.std.specs.Prelude.{◌≤◌, ◌<◌, length};
 
 use film_check::Checked;

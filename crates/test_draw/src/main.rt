@@ -1,5 +1,7 @@
 // Draws bands of two sheets with a load, one after another into one buffer of 20 bytes, with refused calls between. For each call it prints
 // what was asked and answered, and the whole buffer as it is then. What it must print is in the file stdout beside src/.
+#![tactic(auto)]
+
 use film_draw::draw;
 use film_drawing::Drawn;
 use text::row_line;

@@ -1,6 +1,8 @@
 // Draws one band into a buffer of 65,536 bytes and prints the answer, so that a draw's instructions can be counted. The standard input is four
 // numbers of eight bytes each, high byte first: the sheet's bytes, the load's bytes, page and band; then sheet and load. It has at most 131,072
 // bytes. Of another input nothing is printed.
+#![tactic(auto)]
+
 ghost use Rattle.std.specs.Prelude.{◌≤◌};
 
 use film_draw::draw;

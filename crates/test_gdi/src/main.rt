@@ -18,6 +18,8 @@
 // page end; `D`, a document end; `X` with four digits of a count and two of a byte, that byte so many times.
 //
 // What it must print for the file stdin beside src/ is in the file stdout there.
+#![tactic(auto)]
+
 ghost use Rattle.std.specs.Prelude.{◌≤◌, length};
 
 use gdi_check::{Checked, check_job};
@@ -71,14 +73,14 @@ const BYTES: [u8; MARK_BYTES] =
     *b") SAG-GDI RL;0;0;Comment Copyright Sagem Communication 2005. Version 1.0.0.0\r\n\x10\x00\x02\x00\x00\x00\x00\x00\x11\x00\x0f\x00\x00\x00\x00\x00\x04\x04\x00\x00\xf3\xf1\xf7\xf5\x00\x00\x01\x00\x00\x12\x00\xf3\xf1\x00\x00\x13\x00\x00\x00\x00\x00\x14\x00\x00\x00\x00\x00\xf0";
 
 // A field as a number, or how many bytes it has.
-#[derive(Drop)]
+#[derive(Clone, Copy)]
 enum Parsed {
     Value(usize),
     Wrong,
 }
 
 // Where in BYTES a mark's bytes start and end, and how many digits follow the mark.
-#[derive(Drop)]
+#[derive(Clone, Copy)]
 struct Extent {
     from: usize,
     to: usize,
@@ -86,7 +88,7 @@ struct Extent {
 }
 
 // What a function answered: the place of a word in the list that `print_told` has, and its numbers.
-#[derive(Drop)]
+#[derive(Clone, Copy)]
 struct Told {
     word: usize,
     first: usize,

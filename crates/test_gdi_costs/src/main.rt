@@ -1,6 +1,8 @@
 // Checks one job, reads the lines of one page, or writes one row, and prints the answer, so that the instructions can be counted. The standard input
 // is two words, high byte first: 1, 2 or 3 for one of these, and the width; then the job, the page from after its head on, or the row. With 4 a row is
 // written into an output of as many bytes as a third word says. The input has at most 131,072 bytes. Of another one nothing is printed.
+#![tactic(auto)]
+
 use film_words::word;
 use gdi_check::{Checked, check_job};
 use gdi_read::{LineRead, read_line};

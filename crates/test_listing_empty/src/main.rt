@@ -1,3 +1,5 @@
+#![tactic(auto)]
+
 // Lists an empty input. The program is that of crates/listing.
 fn main() {
     let mut input = [0u8; 65537];

@@ -1,3 +1,5 @@
+#![tactic(auto)]
+
 // Lists a sheet of 65,536 bytes, the longest that it lists. The program is that of crates/listing.
 fn main() {
     let mut input = [0u8; 65537];

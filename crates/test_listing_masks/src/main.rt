@@ -1,3 +1,5 @@
+#![tactic(auto)]
+
 // Lists a sheet of two pages with every mask and colour that an empty load allows. The program is that of crates/listing.
 fn main() {
     let mut input = [0u8; 65537];

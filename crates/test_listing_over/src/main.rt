@@ -1,3 +1,5 @@
+#![tactic(auto)]
+
 // Lists the sheet of crates/test_listing_longest and one byte more. The program is that of crates/listing.
 fn main() {
     let mut input = [0u8; 65537];

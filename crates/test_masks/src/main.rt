@@ -1,5 +1,7 @@
 // Runs `film_masks::ink_mask` on a band of four rows and prints a line for each case: its name, and the buffer as it is then, in hexadecimal. What the
 // program must print is in the file stdout beside src/.
+#![tactic(auto)]
+
 use film_commands::{Colour, Mask, Source};
 use film_cursor::{Cursor, Step, advance};
 use film_masks::ink_mask;

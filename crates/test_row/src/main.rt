@@ -1,5 +1,7 @@
 // Runs the functions of `row` on small rows and prints a line for each case: the function, the row's bytes in hexadecimal, the other
 // arguments, and after `=` the answer, or the row as it is then. What the program must print is in the file stdout beside src/.
+#![tactic(auto)]
+
 const LARGEST: usize = 18446744073709551615;
 
 fn print_bytes(row: &[u8]) {

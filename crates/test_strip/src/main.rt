@@ -1,6 +1,8 @@
 // Receives the stream on its standard input, at most 65,536 bytes, and prints a line for each byte that is answered something else than a plain 0: its place
 // in the stream and the answer. The status is 02 hex. At the end it prints the rows of the last page that was printed, in hexadecimal. For a longer input it
 // prints `input too long` alone. What it must print for the file stdin beside src/ is in the file stdout there.
+#![tactic(auto)]
+
 use strip::Answer;
 use strip_step::step;
 use text::row_line;

@@ -1,5 +1,7 @@
 // The lines of a listing, in ASCII. Each public function puts one line at the start of `out`, with the newline that ends it, and answers
 // how many bytes it has; the bytes of `out` beyond it stay. Where `out` is too short for the line it stays whole, and the answer is 0.
+#![tactic(auto)]
+
 ghost use Rattle.std.specs.Prelude.{◌≡◌, ◌++◌, ◌+◌, ◌≤◌, ◌<◌, length, drop};
 ghost use Rattle.text.specs.Numbers.{hex_digit, decimal};
 ghost use Rattle.text.specs.Lines.{pages_line, band_line, row_line, refusal_line};

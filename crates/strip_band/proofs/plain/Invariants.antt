@@ -1,0 +1,13 @@
+-- `strip_band::plain` meets its contract. Assumes nothing.
+use Prim.Native.Nat.{◌≤◌, ◌-◌}
+use mathlib.Core.Path.{◌≡◌, refl, ◌∙◌}
+use lib.ListN.{length, take, length-set}
+use native.Mathlib.Omega.{arith}
+use Rattle.strip_band.proofs.Laws.{no_band, copy_more, copy_ends}
+use Rattle.strip_band.proofs.plain.Given as goal
+
+abbrev pub invariant-loop-i : goal.invariant-loop-i
+invariant-loop-i l = (l.i ≤ 640) × (length l.out ≡ 640) × (take l.i l.out ≡ take l.i l.body)
+
+abbrev pub decreases-loop-i : goal.decreases-loop-i
+decreases-loop-i l = 640 - l.i

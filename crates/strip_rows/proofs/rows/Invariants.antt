@@ -1,0 +1,14 @@
+-- `strip_rows::rows` meets its contract. Assumes nothing.
+use Prim.Native.Nat.{◌<◌, ◌≤◌, ◌+◌, ◌*◌, ◌-◌}
+use mathlib.Core.Path.{◌≡◌, refl}
+use lib.ListN.{length, length-set}
+use native.Mathlib.Omega.{arith}
+use Rattle.strip.specs.Dots.{four_dots}
+use Rattle.strip_rows.proofs.Laws.{written, begins, in_bands, pair_goes_on, ends}
+use Rattle.strip_rows.proofs.rows.Given as goal
+
+abbrev pub invariant-loop-i : goal.invariant-loop-i
+invariant-loop-i l = (l.i ≤ 320 * l.n) × (length l.dots ≡ length l.initial.dots) × (l.dots ≡ written (four_dots l.bands l.palette) (2 * l.i) l.initial.dots)
+
+abbrev pub decreases-loop-i : goal.decreases-loop-i
+decreases-loop-i l = 320 * l.n - l.i

@@ -1,0 +1,42 @@
+-- `text::row_line` meets its contract. The loop's invariant: the digits of the row's first i bytes are put. Assumes nothing.
+use Prim.Native.Nat.{◌-◌}
+use native.Mathlib.Omega.{arith}
+use lib.ListN.{length, length-set}
+use Rattle.buffers.proofs.Buffers.{begun_written, counted, too_short, too_short_count}
+use Rattle.text.proofs.Lines.{Rowed, row_length_lem, row_short, rowed_first, rowed_next, rowed_last}
+use Rattle.text.proofs.row_line.Goals as goal
+
+pub returns-then-out-row : goal.returns-then-out-row
+returns-then-out-row c =
+    let a = c.args in
+    let l = row_short a.row.now a.out.now (omega arith) in record {
+      value = too_short_count _ _ l;
+      out_after = too_short _ _ l;
+    }
+
+pub loop-i-init : goal.loop-i-init
+loop-i-init c = rowed_first _ _ (omega arith)
+
+pub hex_digit-requires : goal.hex_digit-requires
+hex_digit-requires c = omega (arith, c.type_inv.row c.loop-i.i)
+
+pub hex_digit-requires-in-loop-i : goal.hex_digit-requires-in-loop-i
+hex_digit-requires-in-loop-i c = omega (arith, c.type_inv.row c.loop-i.i)
+
+pub bounds-out-i-in-loop-i : goal.bounds-out-i-in-loop-i
+bounds-out-i-in-loop-i c = simp length-set (omega arith)
+
+pub loop-i-preserved : goal.loop-i-preserved
+loop-i-preserved c =
+    rowed_next c.loop-i.invariant (omega arith) c.hex_digit.ensures c.hex_digit-in-loop-i.ensures
+
+pub shape_of-out : goal.shape_of-out
+shape_of-out c = simp length-set c.loop-i.invariant.begun.size
+
+pub returns : goal.returns
+returns c =
+    let a = c.args in
+    let b = rowed_last c.loop-i.invariant (omega arith) in record {
+      value = counted _ _ b.room (omega (arith, row_length_lem a.row.now));
+      out_after = begun_written b (omega (arith, row_length_lem a.row.now));
+    }
