@@ -1,32 +1,29 @@
 -- `gdi_check::step_between` meets its contract, for each kind of group. Assumes nothing.
 use mathlib.Core.Path.{◌≡◌, refl, sym, ap, ◌∙◌}
-use mathlib.Core.List.{List, [], ◌∷◌}
 use Prim.Native.Nat.{ℕ}
 use native.Mathlib.Omega.{arith}
 use lib.ListN.{length-drop}
-use types.Run.{OneOf, miss}
-use denote.Enum.Declared.{tag_of}
 use Rattle.gdi_jobs.specs.Jobs.{stop, step_between}
 use Rattle.gdi_parse.specs.Answers.{group_of}
 use Rattle.gdi_parse.specs.declared.Group as code
 use Rattle.gdi_parse.specs.declared.Group.TheVariants.{Cut, PageHead, WrongPageHead, Block, PageEnd, DocumentEnd, Unknown}
-use Rattle.gdi_parse.specs.contracts.Group.{the_type}
 use Rattle.gdi_check.proofs.Steps.{between_is, end_before, end_last}
 use Rattle.gdi_check.proofs.step_between.Goals as goal
 
--- the tags of a block, the page end and an unknown group
-abbrev others : List ℕ
-others = 3 ∷ 4 ∷ 6 ∷ []
-
 -- which may not come between pages
-other : (pages n : ℕ) (g : code.Group) → OneOf others (tag_of the_type g) → stop 23 0 ≡ step_between pages n (group_of g)
-other pages n Cut h = absurd (miss others 0 tt h)
-other pages n (PageHead width height) h = absurd (miss others 1 tt h)
-other pages n WrongPageHead h = absurd (miss others 2 tt h)
-other pages n (Block size) h = refl
-other pages n PageEnd h = refl
-other pages n DocumentEnd h = absurd (miss others 5 tt h)
-other pages n Unknown h = refl
+other : (pages n : ℕ) (g : code.Group)
+    → (g ≡ Cut → ⊥)
+    → ((width height : ℕ) → g ≡ PageHead width height → ⊥)
+    → (g ≡ WrongPageHead → ⊥)
+    → (g ≡ DocumentEnd → ⊥)
+    → stop 23 0 ≡ step_between pages n (group_of g)
+other pages n Cut cut head wrong end = absurd (cut refl)
+other pages n (PageHead width height) cut head wrong end = absurd (head width height refl)
+other pages n WrongPageHead cut head wrong end = absurd (wrong refl)
+other pages n (Block size) cut head wrong end = refl
+other pages n PageEnd cut head wrong end = refl
+other pages n DocumentEnd cut head wrong end = absurd (end refl)
+other pages n Unknown cut head wrong end = refl
 
 pub returns-in-Cut : goal.returns-in-Cut
 returns-in-Cut c =
@@ -58,4 +55,5 @@ returns-else-n-gt6 c =
 pub returns-in_default : goal.returns-in_default
 returns-in_default c =
     let a = c.args in
-    other _ _ c.group_at.result c.in_default.in_default-own.keys5 ∙ between_is _ _ _ _ (sym (length-drop a.at a.job.now)) c.group_at.ensures
+    other _ _ c.group_at.result c.in_default.not-Cut c.in_default.not-PageHead c.in_default.not-WrongPageHead c.in_default.not-DocumentEnd
+    ∙ between_is _ _ _ _ (sym (length-drop a.at a.job.now)) c.group_at.ensures

@@ -19,7 +19,6 @@ step_at-requires c = (c.loop-at.invariant.1.bounded, c.loop-at.invariant.1.withi
 on : (c : goal.In-Onward)
     → (1 ≤ c.in-Onward.n) × WalkedTo c.args.job.now (c.loop-at.at + c.in-Onward.n) (state_of c.in-Onward.next)
 on c =
-    let c.loop-at = c.loop-at in
     walked_on c.loop-at.invariant.1 (sym c.step_at.ensures ∙ ap step_of c.in-Onward.is)
 
 pub overflow_add-at : goal.overflow_add-at
@@ -39,7 +38,6 @@ returns-in-Done c =
 stopped : (c : goal.In-Stop)
     → c.loop-at.at + c.in-Stop.i ≤ length c.args.job.now
 stopped c =
-    let c.loop-at = c.loop-at in
     (walked_stop c.loop-at.invariant.1 (sym c.step_at.ensures ∙ ap step_of c.in-Stop.is)).0
 
 pub overflow_add-result : goal.overflow_add-result

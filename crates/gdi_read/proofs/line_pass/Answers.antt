@@ -1,10 +1,5 @@
 -- `gdi_read::line_pass` meets its contract. The loop's invariant: the answer is that of what is to come at place `at`, and the dots below the sum are
 -- written where they are to be. The measure is the number of bytes left. Assumes nothing.
--- ---- a block
--- ---- the page's end
--- ---- a command
--- ---- a refusal
--- ---- the job's end
 use mathlib.Core.Path.{◌∙◌}
 use Prim.Native.Nat.{◌+◌, ◌-◌, ◌≤◌}
 use native.Mathlib.Omega.{arith}
@@ -20,7 +15,7 @@ loop-at-preserved-in-ToBlock c =
     read_block c.loop-at.invariant _ c.next_at.ensures _ c.in-ToBlock.is
 
 pub overflow_add-at : goal.overflow_add-at
-overflow_add-at c = omega (arith, (loop-again c).inside)
+overflow_add-at c = omega (arith, (read_block c.loop-at.invariant _ c.next_at.ensures _ c.in-ToBlock.is).inside)
 
 pub overflow_add-result : goal.overflow_add-result
 overflow_add-result c = omega (arith, (read_end c.loop-at.invariant _ c.next_at.ensures c.in-ToEnd.is).0)

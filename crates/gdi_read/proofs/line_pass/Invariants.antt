@@ -1,10 +1,5 @@
 -- `gdi_read::line_pass` meets its contract. The loop's invariant: the answer is that of what is to come at place `at`, and the dots below the sum are
 -- written where they are to be. The measure is the number of bytes left. Assumes nothing.
--- ---- a block
--- ---- the page's end
--- ---- a command
--- ---- a refusal
--- ---- the job's end
 use mathlib.Core.Path.{◌∙◌}
 use Prim.Native.Nat.{◌+◌, ◌-◌, ◌≤◌}
 use native.Mathlib.Omega.{arith}
