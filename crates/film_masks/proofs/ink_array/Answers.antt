@@ -13,12 +13,13 @@ use Rattle.film_commands.specs.Code.{colour_with}
 use Rattle.film_imaging.specs.Masks.{masked}
 use Rattle.film_masks.proofs.Lines.{Lined, lined_first, lined_length, lined_fits, lined_row, lined_done, lined_below, samples_dots, samples_off}
 use Rattle.film_masks.proofs.ink_array.Goals as goal
+use Rattle.film_masks.proofs.ink_array.Goals.{then-first-top, else-first-top}
 
 pub loop-s-init : goal.loop-s-init
 loop-s-init c =
     let a = c.args in
     lined_first (λ i. (c.type_inv.buf i).fits) (samples_off a.s_min a.f_min (words a.array.now))
-    (⊎_elim (λ w. omega arith) (λ w. omega arith) c.if-first-top.branch)
+    (elim c.if-first-top.branch [ then-first-top w ↦ omega arith | else-first-top w ↦ omega arith ])
 
 pub overflow_sub-at : goal.overflow_sub-at
 overflow_sub-at c = omega (arith, c.loop-s.invariant.since)
@@ -39,8 +40,8 @@ overflow_sub-i c = omega (arith, c.loop-s.invariant.since)
 pub overflow_add-at : goal.overflow_add-at
 overflow_add-at c = omega (arith, fits c)
 
-pub UNKNOWN-slice-bounds-ink-samples-end : goal.UNKNOWN-slice-bounds-ink-samples-end
-UNKNOWN-slice-bounds-ink-samples-end c = omega (arith, fits c, lined_length c.loop-s.invariant)
+pub slice_bounds-ink_samples-end : goal.slice_bounds-ink_samples-end
+slice_bounds-ink_samples-end c = omega (arith, fits c, lined_length c.loop-s.invariant)
 
 pub loop-s-preserved : goal.loop-s-preserved
 loop-s-preserved c =

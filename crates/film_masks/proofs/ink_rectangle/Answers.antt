@@ -11,12 +11,13 @@ use Rattle.film_imaging.specs.Masks.{masked}
 use Rattle.film_imaging.proofs.Rectangle.{rectangle_off}
 use Rattle.film_masks.proofs.Lines.{Lined, lined_first, lined_length, lined_within, lined_next, lined_done, lined_below, rectangle_dots}
 use Rattle.film_masks.proofs.ink_rectangle.Goals as goal
+use Rattle.film_masks.proofs.ink_rectangle.Goals.{then-first-top, else-first-top}
 
 pub loop-s-init : goal.loop-s-init
 loop-s-init c =
     let a = c.args in
     lined_first (λ i. (c.type_inv.buf i).fits) (rectangle_off a.s_min a.s_size a.f_min a.f_size)
-    (⊎_elim (λ w. omega arith) (λ w. omega arith) c.if-first-top.branch)
+    (elim c.if-first-top.branch [ then-first-top w ↦ omega arith | else-first-top w ↦ omega arith ])
 
 pub stretch_in_row-requires : goal.stretch_in_row-requires
 stretch_in_row-requires c =

@@ -13,6 +13,7 @@ use Rattle.film_commands.specs.Code.{colour_with}
 use Rattle.film_masks.specs.Bands.{painted_frame}
 use Rattle.film_masks.proofs.Runs.{Walked, walked-first, run_above, walked_last, walked_next, walked-done, walked_short, walked_below, walked-length}
 use Rattle.film_masks.proofs.ink_runs.Goals as goal
+use Rattle.film_masks.proofs.ink_runs.Goals.{then-s-top, else-s-top}
 
 pub loop-lines-init : goal.loop-lines-init
 loop-lines-init c = (omega arith, walked-first c.word-lines.ensures (λ i. (c.type_inv.buf i).fits))
@@ -34,7 +35,9 @@ inked : (c : goal.Then-w-ge32768)
     ≡ painted_frame a.frame (colour_with a.colour (words a.tile.now)) (λ t g. eqb t c.loop-lines.s && (leb f g && ltb g (f + c.word-w.result % 32768)))
     c.loop-lines.buf
 inked c =
-    ⊎_elim (λ y. y.6 ∙ rw (← y.1.ensures) y.3.ensures) (λ y. y.1 ∙ run_above c.loop-lines.invariant.1 _ _ y.0.left) c.if-s-top.branch
+    elim c.if-s-top.branch [
+      then-s-top y ↦ y.buf-is ∙ rw (← y.word-from.ensures) y.stretch_in_row.ensures
+    | else-s-top y ↦ y.buf-is ∙ run_above c.loop-lines.invariant.1 _ _ y.if-s-top.false ]
 
 -- the run is painted, where the band has its line and where not
 inked-2 : (c : goal.Else-w-ge32768)
@@ -44,7 +47,9 @@ inked-2 : (c : goal.Else-w-ge32768)
     ≡ painted_frame a.frame (colour_with a.colour (words a.tile.now)) (λ t g. eqb t c.loop-lines.s && (leb f g && ltb g (f + c.word-w.result % 32768)))
     c.loop-lines.buf
 inked-2 c =
-    ⊎_elim (λ y. y.6 ∙ rw (← y.1.ensures) y.3.ensures) (λ y. y.1 ∙ run_above c.loop-lines.invariant.1 _ _ y.0.left) c.if-s-top.branch
+    elim c.if-s-top.branch [
+      then-s-top y ↦ y.buf-is ∙ rw (← y.word-from.ensures) y.stretch_in_row.ensures
+    | else-s-top y ↦ y.buf-is ∙ run_above c.loop-lines.invariant.1 _ _ y.if-s-top.false ]
 
 pub overflow_add-s : goal.overflow_add-s
 overflow_add-s c = omega (arith, ltb-true)

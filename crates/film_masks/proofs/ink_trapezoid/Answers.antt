@@ -16,6 +16,7 @@ use Rattle.film_edges.proofs.Edges.{Place, placed}
 use Rattle.film_masks.proofs.Bands.{band_none}
 use Rattle.film_masks.proofs.Lines.{Lined, lined_first, lined_length, lined_within, lined_next, lined_done, lined_below, trapezoid_dots}
 use Rattle.film_masks.proofs.ink_trapezoid.Goals as goal
+use Rattle.film_masks.proofs.ink_trapezoid.Goals.{then-first-top, else-first-top}
 
 pub returns-then-s_size-eq0 : goal.returns-then-s_size-eq0
 returns-then-s_size-eq0 c =
@@ -26,7 +27,7 @@ loop-s-init c =
     let a = c.args in
     lined_first (λ i. (c.type_inv.buf i).fits)
     (trapezoid_off a.s_min a.s_size a.f_min a.f_size a.f_min_last a.f_size_last)
-    (⊎_elim (λ w. omega arith) (λ w. omega arith) c.if-first-top.branch)
+    (elim c.if-first-top.branch [ then-first-top w ↦ omega arith | else-first-top w ↦ omega arith ])
 
 pub overflow_sub-d : goal.overflow_sub-d
 overflow_sub-d c = omega (arith, c.loop-s.invariant.since)
@@ -34,41 +35,11 @@ overflow_sub-d c = omega (arith, c.loop-s.invariant.since)
 pub overflow_cast-d : goal.overflow_cast-d
 overflow_cast-d c = omega (arith, c.loop-s.invariant.since)
 
--- the place on line s, rounded up, of an edge that goes from a to z
-abbrev place : goal.At-loop-s → (a z : ℕ) → ℤ
-place l a z =
-    let e = l.before.before.before.before.before.before.before.before.args in
-    edge_at a z (e.s-size - 1) (l.loop.s - e.s-min)
-
-from_place : (c : goal.After-edge_at-from)
-    → let a = c.args in
-    Place c.edge_at-from.result (place c a.f_min a.f_min_last)
-from_place c =
-    placed _ _ _ _ _ c.edge_at-from.type-inv c.edge_at-from.ensures (omega (arith, c.loop-s.invariant.since))
-
-from_place-2 : (c : goal.After-slice_known-in-loop-s-1)
-    → let a = c.args in
-    Place c.edge_at-from.result (place c a.f_min a.f_min_last)
-from_place-2 c =
-    placed _ _ _ _ _ c.edge_at-from.type-inv c.edge_at-from.ensures (omega (arith, c.loop-s.invariant.since))
-
 pub overflow_cast-from : goal.overflow_cast-from
-overflow_cast-from c = (from_place c).cast
-
-to-place : (c : goal.After-edge_at-to)
-    → let a = c.args in
-    Place c.edge_at-to.result (place c (a.f_min + a.f_size) (a.f_min_last + a.f_size_last))
-to-place c =
-    placed _ _ _ _ _ c.edge_at-to.type-inv c.edge_at-to.ensures (omega (arith, c.loop-s.invariant.since))
-
-to-place-2 : (c : goal.After-slice_known-in-loop-s-1)
-    → let a = c.args in
-    Place c.edge_at-to.result (place c (a.f_min + a.f_size) (a.f_min_last + a.f_size_last))
-to-place-2 c =
-    placed _ _ _ _ _ c.edge_at-to.type-inv c.edge_at-to.ensures (omega (arith, c.loop-s.invariant.since))
+overflow_cast-from c = (placed _ c.args.f_min c.args.f_min_last (c.args.s_size - 1) (c.loop-s.s - c.args.s_min) c.edge_at-from.type_inv c.edge_at-from.ensures (omega (arith, c.loop-s.invariant.since))).cast
 
 pub overflow_cast-to : goal.overflow_cast-to
-overflow_cast-to c = (to-place c).cast
+overflow_cast-to c = (placed _ (c.args.f_min + c.args.f_size) (c.args.f_min_last + c.args.f_size_last) (c.args.s_size - 1) (c.loop-s.s - c.args.s_min) c.edge_at-to.type_inv c.edge_at-to.ensures (omega (arith, c.loop-s.invariant.since))).cast
 
 pub stretch_in_row-requires : goal.stretch_in_row-requires
 stretch_in_row-requires c =
@@ -82,7 +53,7 @@ stretch_in_row-requires c =
 pub loop-s-preserved : goal.loop-s-preserved
 loop-s-preserved c =
     lined_next c.loop-s.invariant _
-    (trapezoid_dots _ _ _ _ _ _ _ (lined_within c.loop-s.invariant (omega arith)) (from_place-2 c).is (to-place-2 c).is)
+    (trapezoid_dots _ _ _ _ _ _ _ (lined_within c.loop-s.invariant (omega arith)) (placed _ c.args.f_min c.args.f_min_last (c.args.s_size - 1) (c.loop-s.s - c.args.s_min) c.edge_at-from.type_inv c.edge_at-from.ensures (omega (arith, c.loop-s.invariant.since))).is (placed _ (c.args.f_min + c.args.f_size) (c.args.f_min_last + c.args.f_size_last) (c.args.s_size - 1) (c.loop-s.s - c.args.s_min) c.edge_at-to.type_inv c.edge_at-to.ensures (omega (arith, c.loop-s.invariant.since))).is)
     c.stretch_in_row.ensures
 
 pub shape_of-buf-else-s-band_end : goal.shape_of-buf-else-s-band_end

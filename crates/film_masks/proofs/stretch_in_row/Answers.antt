@@ -20,8 +20,8 @@ overflow_mul-at c = omega (arith, fits c)
 pub overflow_add-at : goal.overflow_add-at
 overflow_add-at c = omega (arith, fits c)
 
-pub UNKNOWN-slice-bounds-ink-stretch-end : goal.UNKNOWN-slice-bounds-ink-stretch-end
-UNKNOWN-slice-bounds-ink-stretch-end c = omega (arith, fits c)
+pub slice_bounds-ink_stretch-end : goal.slice_bounds-ink_stretch-end
+slice_bounds-ink_stretch-end c = omega (arith, fits c)
 
 pub shape_of-buf : goal.shape_of-buf
 shape_of-buf c =
@@ -34,5 +34,5 @@ returns c =
     let a = c.args in
     let k = a.s - a.frame.top in
     band_one _ _ _ _ a.s k (k * a.n) _ _ (omega (arith, c.requires.2)) (ap (λ (x : ℕ). k * x) c.requires.1) (k * a.n + a.n - k * a.n) _
-    (omega (arith, c.requires.2, c.requires.3)) c.requires.0 (λ i. (c.type_inv.buf i).fits)
+    (omega (arith, c.requires.2, c.requires.3)) c.requires.0 (λ i. (c.slice_known-1.given i).fits)
     (add-sub_cancel_left (k * a.n) a.n ∙ c.requires.1) c.ink_stretch.ensures
