@@ -183,7 +183,7 @@ fn structs_are_those_that_are_proved() {
         ("StripRecord", "strip_record"),
         ("StripAnswer", "strip_answer"),
     ] {
-        let start = format!("#[repr(C)]\npub struct {name} {{");
+        let start = format!("#[repr(C)]\n#[derive(Clone, Copy)]\npub struct {name} {{");
         let proved = fields(PROVED_STRUCTS, &start);
         assert!(proved.len() > 7, "{proved:?}");
 
@@ -210,7 +210,7 @@ fn structs_are_those_that_are_proved() {
 /// The refusals of an entry in the proved statement: `gives` with the name of a list, which is
 /// written as `1 ∷ 2 ∷ []`.
 fn proved_refusals(entry: &str) -> Vec<usize> {
-    let field = format!("\n  pub {} :", entry.replace('_', "-"));
+    let field = format!("\n  pub {entry} :");
     let field = between(PROVED_REFUSALS, &field, "≡ true").next();
     let list = between(field.expect("the entry"), "gives ", " ").next();
     let list = format!("\n{} = ", list.expect("the list's name"));
@@ -225,7 +225,7 @@ fn proved_refusals(entry: &str) -> Vec<usize> {
 fn header_names_the_proved_refusals() {
     for Entry { name, .. } in entries() {
         if NEVER_REFUSED.contains(&name.as_str()) {
-            assert!(!PROVED_REFUSALS.contains(&name.replace('_', "-")), "{name}");
+            assert!(!PROVED_REFUSALS.contains(&name), "{name}");
         } else {
             assert_eq!(refusals(&name), proved_refusals(&name), "{name}");
         }

@@ -14,7 +14,7 @@ use Rattle.film_commands.specs.Band.{band_test}
 use Rattle.film_herald.specs.Herald.{herald_of, page_count, band_count}
 use Rattle.film_herald.specs.Refusals.{herald_test}
 use Rattle.film_layout.specs.Layout.{span, Layout, ends, layout_of}
-use Rattle.film_layout.specs.Walks.{to_come, span_of, node_as, Stepped}
+use Rattle.film_layout.specs.Walks.{to_come, node_as, Stepped}
 use Rattle.film_layout.specs.declared.Walk.{Walk}
 use Rattle.film_layout.specs.declared.Node as code
 use Rattle.film_layout.specs.declared.Node.TheVariants as node

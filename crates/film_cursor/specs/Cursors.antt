@@ -1,6 +1,6 @@
 -- What a cursor over a band's commands, and a step of it, stand for.
-use Rattle.std.specs.Prelude.{◌≡◌, true, false, List, [], ◌∷◌, ℕ, ◌<◌}
-use Rattle.refusal.specs.Answers.{refused, Verdict, fine}
+use Rattle.std.specs.Prelude.{◌≡◌, List, [], ◌∷◌, ℕ, ◌<◌}
+use Rattle.refusal.specs.Answers.{Verdict, fine}
 use Rattle.refusal.specs.Code.{refused_as}
 use Rattle.film_words.specs.Words.{words}
 use Rattle.film_words.specs.Parts.{part_of}

@@ -5,7 +5,7 @@
 -- How to read a statement. A `Type 0` is a statement or a kind of thing. `(x : A) → B` says B of every x of A, `{x : A} → B` says the same where x
 -- need not be written, and `A → B` between statements says that B holds where A does. `m ≤ n` and `m < n` are statements about numbers, `¬ A`
 -- and `A → ⊥` say that A does not hold, and `A × B` is both. A `record` that is a statement is all of its parts, and what stands in front of its
--- colon is what it speaks of; a `data` that is a statement, like `Made`, holds where one of its lines gives it. `List-as-Memᴰ c l` says that c is
+-- colon is what it speaks of; a `data` that is a statement, like `Made`, holds where one of its lines gives it. `Memᴰ c l` says that c is
 -- one of the list l, and `map g l` is the list of g of each of l.
 pub mod Examples
 pub mod Picture

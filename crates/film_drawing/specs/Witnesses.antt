@@ -1,5 +1,5 @@
 -- The premises of Demand 3 are met: draw calls of each kind, one drawing of each band of a page, two sheets alike but for one band.
-use Rattle.std.specs.Prelude.{◌≡◌, refl, List, [], ◌∷◌}
+use Rattle.std.specs.Prelude.{refl, List, [], ◌∷◌}
 use mathlib.Core.List.Memᴰ
 use Rattle.std.specs.Int.Count.{ones}
 use Rattle.refusal.specs.Tables.{first}

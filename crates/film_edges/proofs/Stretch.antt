@@ -12,7 +12,7 @@ use lib.Signed.{le_z, lt_z}
 use Rattle.truth.proofs.Tests.{leb_is, ltb_is, is_same}
 use Rattle.film_words.specs.Words.{ceil_div}
 use Rattle.film_commands.specs.Commands.{trapezoid}
-use Rattle.film_imaging.specs.Masks.{within, edge, masked}
+use Rattle.film_imaging.specs.Masks.{within, masked}
 use Rattle.film_imaging.proofs.Trapezoid.{edge_denominator}
 use Rattle.film_edges.specs.Edges.{ceil_z, edge_at}
 

@@ -1,5 +1,5 @@
 -- Whatever meets the contract of `film_check` or `film_draw` keeps the promise of check or of draw, so that demand 3 speaks of it. Assumes nothing.
-use mathlib.Core.Path.{◌≡◌, refl, sym}
+use mathlib.Core.Path.{◌≡◌, refl}
 use mathlib.Core.List.{List}
 use Prim.Native.Nat.{ℕ}
 use lib.ListN.{length}

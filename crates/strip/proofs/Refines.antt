@@ -16,7 +16,7 @@ use Rattle.strip.specs.declared.Answer.TheVariants.{Reply, Added, Printed, Refus
 use Rattle.strip.specs.Packets.{fitting, number, add16, sum_from, checksum}
 use Rattle.strip.specs.Coding.{Expansion, whole, cut, expand}
 use Rattle.strip.specs.Actions.{Action, initialize, add, end_page, print, inquire, refuse, action, of_expansion, of_data, of_command}
-use Rattle.strip.specs.Reading.{Bands, searching, half, in_header, in_body, in_sum, in_clock, quiet, status, printed, refused, Reading, reading, asked}
+use Rattle.strip.specs.Reading.{Bands, searching, half, in_header, in_body, in_sum, in_clock, quiet, refused, Reading, reading, asked}
 use Rattle.strip.specs.Step.{After, receiver, leaves, noted, at, placed, carried, taken}
 use Rattle.strip.specs.Streams.{head_of, body_of, place_at, SumIs, joined, answer_of, dots_of}
 use Rattle.strip.specs.Dots as rows

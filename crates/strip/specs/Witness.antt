@@ -1,6 +1,6 @@
 -- That the statement about streams speaks of something: whatever comes makes a stream. And one is worked out, byte by byte: a page of nine bands, plain and
 -- coded, a tenth, a wrong checksum, a Print, a status that is set between two clock bytes, an Initialize.
-use Rattle.std.specs.Prelude.{◌≡◌, refl, List, [], ◌∷◌, ◌++◌, ℕ, zero, suc, ◌+◌, ◌/◌, ◌%◌, ◌≤◌, ◌<◌, length, take, replicate}
+use Rattle.std.specs.Prelude.{◌≡◌, refl, List, [], ◌∷◌, ◌++◌, ℕ, zero, suc, ◌/◌, ◌%◌, ◌≤◌, ◌<◌, length, take, replicate}
 use Rattle.strip.specs.declared.Answer.{Answer}
 use Rattle.strip.specs.declared.Answer.TheVariants.{Reply, Initialized, Added, Ended, Inquired, Printed, Refused}
 use Rattle.strip.specs.Packets.{fitting, sum_from, checksum}

@@ -1,6 +1,5 @@
 -- `film_commands::tile_words` meets its contract, arm by arm. Assumes nothing.
 use mathlib.Core.Path.{refl}
-use native.Mathlib.Omega.{arith}
 use Rattle.film_commands.specs.Code.{tile_part}
 use Rattle.film_commands.proofs.tile_words.Goals as goal
 

@@ -1,6 +1,5 @@
 -- `film_cursor::advance` meets its contract: the command reader's answers, one by one. Assumes nothing.
-use mathlib.Core.List.{List}
-use Prim.Native.Nat.{ℕ, ◌≤◌}
+use Prim.Native.Nat.{◌≤◌}
 use native.Mathlib.Omega.{arith}
 use lib.ListN.{length}
 use Rattle.film_words.specs.Words.{words}

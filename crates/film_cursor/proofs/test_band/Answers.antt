@@ -1,8 +1,7 @@
 -- `film_cursor::test_band` meets its contract. The loop's invariant: the band ends as what is ahead of the cursor ends. Assumes nothing.
-use Prim.Native.Nat.{◌-◌}
 use native.Mathlib.Omega.{arith}
 use Rattle.film_cursor.specs.declared.Step.TheVariants.{Paint, Other}
-use Rattle.film_cursor.proofs.Cursors.{TestedTo, test_start, met, test_paint, test_other, test_fine, test_refused}
+use Rattle.film_cursor.proofs.Cursors.{test_start, met, test_paint, test_other, test_fine, test_refused}
 use Rattle.film_cursor.proofs.test_band.Goals as goal
 
 pub loop-at-init : goal.loop-at-init

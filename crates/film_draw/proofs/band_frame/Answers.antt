@@ -1,5 +1,4 @@
 -- `film_draw::band_frame` meets its contract: the band begins on the page, so no difference or cast loses anything. Assumes nothing.
-use mathlib.Core.Logic.{⊎_elim}
 use mathlib.Core.Path.{refl}
 use Prim.Native.Nat.{◌*◌, ◌<◌}
 use native.Mathlib.Omega.{arith}

@@ -1,6 +1,6 @@
 -- `film_draw::count_dots` meets its contract. The loop's invariant: the dots of the first i rows are counted. The measure is the number of rows left.
 -- Assumes nothing.
-use Prim.Native.Nat.{◌+◌, ◌-◌, ◌*◌, ◌≤◌}
+use Prim.Native.Nat.{◌+◌, ◌*◌, ◌≤◌}
 use native.Mathlib.Nat.{add-sub_cancel_left}
 use native.Mathlib.Omega.{arith}
 use Rattle.film_draw.proofs.Counting.{Counted, counted_none, counted_row, counted_fits, counted_all}

@@ -1,6 +1,5 @@
 -- `film_draw::draw_found` meets its contract: the commands are tested, carried out, and the rows' ones counted. Assumes nothing.
 use mathlib.Core.Path.{sym, ap, ◌∙◌}
-use native.Mathlib.Omega.{arith}
 use Rattle.refusal.specs.Code.{tested_as}
 use Rattle.film_draw.proofs.Inking.{band_strokes}
 use Rattle.film_draw.proofs.Drawing.{within_rows, handed_on, gone_on, rows_drawn}

@@ -1,6 +1,6 @@
 -- `film_draw::draw_of_page` meets its contract. Assumes nothing.
 use mathlib.Core.Path.{sym, ap, ◌∙◌}
-use Rattle.film_layout.specs.Walks.{span_of, found_as}
+use Rattle.film_layout.specs.Walks.{found_as}
 use Rattle.film_draw.proofs.Drawing.{handed_on, gone_on}
 use Rattle.film_draw.proofs.draw_of_page.Goals as goal
 

@@ -10,7 +10,7 @@ use Rattle.film_cursor.proofs.Cursors.{met}
 use Rattle.film_herald.specs.Herald.{row_length}
 use Rattle.film_masks.proofs.Bands.{rows_bytes_lem}
 use Rattle.film_draw.specs.Functions.{inked_with}
-use Rattle.film_draw.proofs.Inking.{ink_out, ink_cleared, inked-length, band_strokes, Inked, inked-first, inked_paint, inked_other, inked_end, inked-refused}
+use Rattle.film_draw.proofs.Inking.{ink_out, ink_cleared, inked-length, band_strokes, inked-first, inked_paint, inked_other, inked_end, inked-refused}
 use Rattle.film_draw.proofs.ink_band.Goals as goal
 
 pub overflow_mul-n : goal.overflow_mul-n

@@ -2,7 +2,6 @@
 use mathlib.Core.Path.{◌≡◌, sym, ap, ap₂, ◌∙◌}
 use Prim.Native.Nat.{ℕ, ◌+◌, ◌-◌}
 use native.Mathlib.Nat.{div-zero}
-use native.Mathlib.Omega.{arith}
 use Rattle.film_words.specs.Words.{ceil_div}
 use Rattle.film_herald.specs.Herald.{band_count}
 use Rattle.film_herald.proofs.bands_per_page.Goals as goal

@@ -1,12 +1,9 @@
 -- `film_layout::find_band` meets its contract. The loop's invariant: the band sought is band `left` of those to come. The measure is the number of
 -- words left. Assumes nothing.
 use Prim.Native.Nat.{◌-◌}
-use native.Mathlib.Omega.{arith}
 use lib.ListN.{length}
 use Rattle.film_words.specs.Words.{words}
-use Rattle.film_layout.proofs.Walks.{met}
-use Rattle.film_layout.proofs.Reaching.{BandTo, band_first, band_this, band_next, band_page, band_none, band_refused}
-use Rattle.film_layout.specs.declared.Node.TheVariants.{Band}
+use Rattle.film_layout.proofs.Reaching.{BandTo}
 use Rattle.film_layout.proofs.find_band.Given as goal
 
 abbrev pub invariant-loop-from : goal.invariant-loop-from

@@ -1,5 +1,4 @@
 -- `film_layout::first_page` meets its contract: the pages begin after word 11. Assumes nothing.
-use native.Mathlib.Omega.{arith}
 use Rattle.film_layout.proofs.Walks.{walk_first}
 use Rattle.film_layout.proofs.first_page.Goals as goal
 

@@ -1,17 +1,13 @@
 -- `film_masks::ink_array` meets its contract. The loop's invariant: the lines from s on are left to paint. The measure is the number of the array's lines
 -- left. Assumes nothing.
-use mathlib.Core.Logic.{⊎_elim}
 use mathlib.Core.Path.{ap, ◌∙◌}
 use Prim.Native.Nat.{ℕ, ◌+◌, ◌-◌, ◌*◌, ◌≤◌}
 use native.Mathlib.Nat.{add-sub_cancel_left}
 use native.Mathlib.Omega.{arith}
 use borrow.Author.Tests.{ltb-true, ltb-false}
 use lib.ListN.{length}
-use Rattle.film_words.specs.Words.{words, at}
-use Rattle.film_commands.specs.Commands.{samples}
-use Rattle.film_commands.specs.Code.{colour_with}
-use Rattle.film_imaging.specs.Masks.{masked}
-use Rattle.film_masks.proofs.Lines.{Lined, lined_first, lined_length, lined_fits, lined_row, lined_done, lined_below, samples_dots, samples_off}
+use Rattle.film_words.specs.Words.{words}
+use Rattle.film_masks.proofs.Lines.{lined_first, lined_length, lined_fits, lined_row, lined_done, lined_below, samples_dots, samples_off}
 use Rattle.film_masks.proofs.ink_array.Goals as goal
 use Rattle.film_masks.proofs.ink_array.Goals.{then-first-top, else-first-top}
 

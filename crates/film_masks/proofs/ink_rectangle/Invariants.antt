@@ -1,15 +1,11 @@
 -- `film_masks::ink_rectangle` meets its contract. The loop's invariant: the lines from s on are left to paint. The measure is the number of the
 -- rectangle's lines left. Assumes nothing.
-use mathlib.Core.Logic.{⊎_elim}
 use Prim.Native.Nat.{◌-◌}
-use native.Mathlib.Omega.{arith}
-use borrow.Author.Tests.{ltb-true, ltb-false}
 use Rattle.film_words.specs.Words.{words}
 use Rattle.film_commands.specs.Commands.{rectangle}
 use Rattle.film_commands.specs.Code.{colour_with}
 use Rattle.film_imaging.specs.Masks.{masked}
-use Rattle.film_imaging.proofs.Rectangle.{rectangle_off}
-use Rattle.film_masks.proofs.Lines.{Lined, lined_first, lined_length, lined_within, lined_next, lined_done, lined_below, rectangle_dots}
+use Rattle.film_masks.proofs.Lines.{Lined}
 use Rattle.film_masks.proofs.ink_rectangle.Given as goal
 
 abbrev pub invariant-loop-s : goal.invariant-loop-s

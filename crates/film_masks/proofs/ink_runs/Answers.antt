@@ -1,9 +1,8 @@
 -- `film_masks::ink_runs` meets its contract. The loop's invariant: the runs from place q on are left to paint. The measure is the number of words left.
 -- Assumes nothing.
-use mathlib.Core.Logic.{⊎_elim}
 use mathlib.Core.Path.{◌≡◌, ◌∙◌}
 use mathlib.Core.Bool.{◌&&◌}
-use Prim.Native.Nat.{◌+◌, ◌-◌, ◌%◌, ◌≤◌}
+use Prim.Native.Nat.{◌+◌, ◌%◌}
 use native.Mathlib.Omega.{arith}
 use borrow.Author.Tests.{ltb-true, leb-true, ltb-false, leb-false}
 use lib.Dec.{leb, ltb, eqb}
@@ -11,7 +10,7 @@ use Rattle.film_words.specs.Words.{words, at}
 use Rattle.film_words.proofs.Words.{length-words}
 use Rattle.film_commands.specs.Code.{colour_with}
 use Rattle.film_masks.specs.Bands.{painted_frame}
-use Rattle.film_masks.proofs.Runs.{Walked, walked-first, run_above, walked_last, walked_next, walked-done, walked_short, walked_below, walked-length}
+use Rattle.film_masks.proofs.Runs.{walked-first, run_above, walked_last, walked_next, walked-done, walked_short, walked_below, walked-length}
 use Rattle.film_masks.proofs.ink_runs.Goals as goal
 use Rattle.film_masks.proofs.ink_runs.Goals.{then-s-top, else-s-top}
 
@@ -19,13 +18,12 @@ pub loop-lines-init : goal.loop-lines-init
 loop-lines-init c = (omega arith, walked-first c.word-lines.ensures (λ i. (c.type_inv.buf i).fits))
 
 pub stretch_in_row-requires : goal.stretch_in_row-requires
-stretch_in_row-requires c =
-    (
-      omega (arith, c.requires, walked-length c.loop-lines.invariant.1),
-      c.row_bytes-n.ensures,
-      omega arith,
-      omega (arith, ltb-true),
-    )
+stretch_in_row-requires c = (
+  omega (arith, c.requires, walked-length c.loop-lines.invariant.1),
+  c.row_bytes-n.ensures,
+  omega arith,
+  omega (arith, ltb-true),
+)
 
 -- the run is painted, where the band has its line and where not
 inked : (c : goal.Then-w-ge32768)
@@ -36,8 +34,9 @@ inked : (c : goal.Then-w-ge32768)
     c.loop-lines.buf
 inked c =
     elim c.if-s-top.branch [
-      then-s-top y ↦ y.buf-is ∙ rw (← y.word-from.ensures) y.stretch_in_row.ensures
-    | else-s-top y ↦ y.buf-is ∙ run_above c.loop-lines.invariant.1 _ _ y.if-s-top.false ]
+      | then-s-top y ↦ y.buf-is ∙ rw (← y.word-from.ensures) y.stretch_in_row.ensures
+      | else-s-top y ↦ y.buf-is ∙ run_above c.loop-lines.invariant.1 _ _ y.if-s-top.false
+    ]
 
 -- the run is painted, where the band has its line and where not
 inked-2 : (c : goal.Else-w-ge32768)
@@ -48,8 +47,9 @@ inked-2 : (c : goal.Else-w-ge32768)
     c.loop-lines.buf
 inked-2 c =
     elim c.if-s-top.branch [
-      then-s-top y ↦ y.buf-is ∙ rw (← y.word-from.ensures) y.stretch_in_row.ensures
-    | else-s-top y ↦ y.buf-is ∙ run_above c.loop-lines.invariant.1 _ _ y.if-s-top.false ]
+      | then-s-top y ↦ y.buf-is ∙ rw (← y.word-from.ensures) y.stretch_in_row.ensures
+      | else-s-top y ↦ y.buf-is ∙ run_above c.loop-lines.invariant.1 _ _ y.if-s-top.false
+    ]
 
 pub overflow_add-s : goal.overflow_add-s
 overflow_add-s c = omega (arith, ltb-true)

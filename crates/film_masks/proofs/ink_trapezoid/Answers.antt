@@ -1,20 +1,13 @@
 -- `film_masks::ink_trapezoid` meets its contract. The loop's invariant: the lines from s on are left to paint. The measure is the number of the
 -- trapezoid's lines left. Assumes nothing.
-use mathlib.Core.Logic.{⊎_elim}
 use mathlib.Core.Path.{sym}
-use Prim.Native.Nat.{ℕ, ◌+◌, ◌-◌}
+use Prim.Native.Nat.{◌+◌, ◌-◌}
 use native.Mathlib.Omega.{arith}
-use lib.IntN.{ℤ}
 use borrow.Author.Tests.{ltb-true, ltb-false}
-use Rattle.film_words.specs.Words.{words}
-use Rattle.film_commands.specs.Commands.{trapezoid}
-use Rattle.film_commands.specs.Code.{colour_with}
-use Rattle.film_imaging.specs.Masks.{masked}
 use Rattle.film_imaging.proofs.Trapezoid.{trapezoid_off, trapezoid_empty}
-use Rattle.film_edges.specs.Edges.{edge_at}
-use Rattle.film_edges.proofs.Edges.{Place, placed}
+use Rattle.film_edges.proofs.Edges.{placed}
 use Rattle.film_masks.proofs.Bands.{band_none}
-use Rattle.film_masks.proofs.Lines.{Lined, lined_first, lined_length, lined_within, lined_next, lined_done, lined_below, trapezoid_dots}
+use Rattle.film_masks.proofs.Lines.{lined_first, lined_length, lined_within, lined_next, lined_done, lined_below, trapezoid_dots}
 use Rattle.film_masks.proofs.ink_trapezoid.Goals as goal
 use Rattle.film_masks.proofs.ink_trapezoid.Goals.{then-first-top, else-first-top}
 
@@ -42,13 +35,12 @@ pub overflow_cast-to : goal.overflow_cast-to
 overflow_cast-to c = (placed _ (c.args.f_min + c.args.f_size) (c.args.f_min_last + c.args.f_size_last) (c.args.s_size - 1) (c.loop-s.s - c.args.s_min) c.edge_at-to.type_inv c.edge_at-to.ensures (omega (arith, c.loop-s.invariant.since))).cast
 
 pub stretch_in_row-requires : goal.stretch_in_row-requires
-stretch_in_row-requires c =
-    (
-      omega (arith, c.requires, lined_length c.loop-s.invariant),
-      c.row_bytes-n.ensures,
-      omega (arith, c.loop-s.invariant.since),
-      omega (arith, ltb-true),
-    )
+stretch_in_row-requires c = (
+  omega (arith, c.requires, lined_length c.loop-s.invariant),
+  c.row_bytes-n.ensures,
+  omega (arith, c.loop-s.invariant.since),
+  omega (arith, ltb-true),
+)
 
 pub loop-s-preserved : goal.loop-s-preserved
 loop-s-preserved c =

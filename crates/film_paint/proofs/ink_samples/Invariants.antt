@@ -1,18 +1,13 @@
 -- `film_paint::ink_samples` meets its contract. The loop's invariant: the dots before j are painted, and the others are as they were.
 -- Assumes nothing.
-use mathlib.Core.Path.{◌≡◌, ◌∙◌}
-use mathlib.Core.Logic.{⊎_elim}
-use Prim.Native.Nat.{◌+◌, ◌≤◌, ◌-◌, ◌/◌, min}
-use native.Mathlib.Omega.{arith}
-use borrow.Author.Tests.{ltb-false}
+use mathlib.Core.Path.{◌≡◌}
+use Prim.Native.Nat.{◌≤◌, ◌-◌}
 use lib.ListN.{length}
 use Rattle.row.specs.Dots.{dot_at, row_of}
-use Rattle.row.proofs.Dots.{length_is}
 use Rattle.film_words.specs.Words.{words}
 use Rattle.film_commands.specs.Code.{colour_with}
 use Rattle.film_herald.specs.Herald.{Window}
-use Rattle.film_paint.specs.Rows.{window_of, painted_line}
-use Rattle.film_paint.proofs.Lines.{Between, painted_to, samples_line, samples_on, samples_between, line_none, line_more, line_done}
+use Rattle.film_paint.proofs.Lines.{painted_to, samples_line}
 use Rattle.film_paint.proofs.ink_samples.Given as goal
 
 abbrev pub invariant-loop-j : goal.invariant-loop-j

@@ -1,15 +1,11 @@
 -- `film_paint::paint_tiles` meets its contract. The loop's invariant: the dots before j are painted, and the others are as they were.
 -- Assumes nothing.
-use mathlib.Core.Path.{◌≡◌, sym}
-use Prim.Native.Nat.{◌≤◌, ◌-◌, ◌/◌}
+use mathlib.Core.Path.{sym}
+use Prim.Native.Nat.{◌≤◌, ◌/◌}
 use native.Mathlib.Omega.{arith}
-use borrow.Author.Tests.{ltb-false}
 use lib.ListN.{length}
-use Rattle.row.specs.Dots.{dot_at, row_of}
 use Rattle.row.proofs.Dots.{length_is}
-use Rattle.film_words.specs.Words.{words}
-use Rattle.film_commands.specs.Band.{tiled}
-use Rattle.film_paint.proofs.Lines.{painted_to, stretch, stretch_is, stretch-between, line_none, line_more, line_done}
+use Rattle.film_paint.proofs.Lines.{stretch_is, stretch-between, line_none, line_more, line_done}
 use Rattle.film_paint.proofs.paint_tiles.Goals as goal
 
 pub loop-j-init : goal.loop-j-init

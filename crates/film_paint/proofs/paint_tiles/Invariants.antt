@@ -1,15 +1,12 @@
 -- `film_paint::paint_tiles` meets its contract. The loop's invariant: the dots before j are painted, and the others are as they were.
 -- Assumes nothing.
-use mathlib.Core.Path.{◌≡◌, sym}
-use Prim.Native.Nat.{◌≤◌, ◌-◌, ◌/◌}
-use native.Mathlib.Omega.{arith}
-use borrow.Author.Tests.{ltb-false}
+use mathlib.Core.Path.{◌≡◌}
+use Prim.Native.Nat.{◌≤◌, ◌-◌}
 use lib.ListN.{length}
 use Rattle.row.specs.Dots.{dot_at, row_of}
-use Rattle.row.proofs.Dots.{length_is}
 use Rattle.film_words.specs.Words.{words}
 use Rattle.film_commands.specs.Band.{tiled}
-use Rattle.film_paint.proofs.Lines.{painted_to, stretch, stretch_is, stretch-between, line_none, line_more, line_done}
+use Rattle.film_paint.proofs.Lines.{painted_to, stretch}
 use Rattle.film_paint.proofs.paint_tiles.Given as goal
 
 abbrev pub invariant-loop-j : goal.invariant-loop-j

@@ -1,9 +1,8 @@
 -- `film_words::group_extent` meets its contract. The loop's invariant: the group takes the words up to q, and then those of the lines to come.
 -- The measure is the number of words left. Assumes nothing.
-use mathlib.Core.Path.{◌≡◌, sym, ap, subst}
-use Prim.Native.Nat.{◌+◌, ◌-◌, ◌<◌, ◌≤◌}
+use mathlib.Core.Path.{sym, ap, subst}
+use Prim.Native.Nat.{◌+◌}
 use native.Mathlib.Omega.{arith}
-use lib.ListN.{length}
 use Rattle.film_words.specs.Words.{words}
 use Rattle.film_words.specs.Answers.{extent_of}
 use Rattle.film_words.proofs.Words.{length-words}

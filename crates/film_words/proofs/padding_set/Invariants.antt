@@ -1,18 +1,12 @@
 -- `film_words::padding_set` meets its contract. The loop's invariant: `last` is the word before line i, and no line before it has a padding bit set.
 -- Assumes nothing.
-use mathlib.Core.Path.{◌≡◌, refl, sym, ap, ◌∙◌}
+use mathlib.Core.Path.{◌≡◌}
 use mathlib.Core.Bool.{false}
-use Prim.Native.Nat.{◌+◌, ◌-◌, ◌*◌, ◌/◌, ◌%◌, ◌^◌, ◌≤◌}
-use native.Mathlib.Nat.{add-mul}
-use native.Mathlib.Omega.{arith}
-use lib.Bits.{bit_and}
+use Prim.Native.Nat.{◌+◌, ◌-◌, ◌*◌, ◌≤◌}
 use lib.ListN.{drop}
 use Rattle.film_words.specs.Words.{words}
 use Rattle.film_words.specs.Arrays.{line_words}
-use Rattle.film_words.specs.Padding.{padding, lines_padding_set}
-use Rattle.film_words.proofs.Words.{length-words}
-use Rattle.film_words.proofs.Arrays.{sizes_fit}
-use Rattle.film_words.proofs.Padding.{next_clear, padding-at, array_set, array_clear, array_unpadded, array_nowhere}
+use Rattle.film_words.specs.Padding.{lines_padding_set}
 use Rattle.film_words.proofs.padding_set.Given as goal
 
 abbrev pub invariant-loop-i : goal.invariant-loop-i

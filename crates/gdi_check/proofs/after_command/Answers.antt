@@ -1,7 +1,6 @@
 -- `gdi_check::after_command` meets its contract. Assumes nothing.
 use mathlib.Core.Path.{◌≡◌, refl, ◌∙◌}
 use Prim.Native.Nat.{ℕ, ◌+◌, ◌<◌, ◌≤◌}
-use native.Mathlib.Omega.{arith}
 use borrow.Author.Tests.{le-leb, lt-leb}
 use Rattle.gdi_jobs.specs.Jobs.{in_page, with_sum}
 use Rattle.gdi_check.proofs.after_command.Goals as goal

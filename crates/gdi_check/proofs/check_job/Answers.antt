@@ -1,7 +1,7 @@
 -- `gdi_check::check_job` meets its contract. The loop's invariant: the head's bytes before place i agree. Assumes nothing.
 use mathlib.Core.Path.{◌≡◌, refl, sym, ap, ◌∙◌}
 use mathlib.Core.List.{List}
-use Prim.Native.Nat.{ℕ, ◌-◌, ◌≤◌}
+use Prim.Native.Nat.{ℕ, ◌≤◌}
 use native.Mathlib.Omega.{arith}
 use borrow.Author.Tests.{lt-ltb, le-ltb}
 use lib.ListN.{length, drop}
@@ -32,13 +32,12 @@ returns-then-job-i-2 c =
 
 pub loop-i-preserved : goal.loop-i-preserved
 unfolding codes head_bytes
-loop-i-preserved c =
-    (
-      c.loop-i.invariant.0,
-      omega arith,
-      omega arith,
-      c.loop-i.invariant.3 ∙ head_agrees head_bytes _ _ (omega (arith, group_cases.head_length)) (omega arith) c.if-job-i-2.false,
-    )
+loop-i-preserved c = (
+  c.loop-i.invariant.0,
+  omega arith,
+  omega arith,
+  c.loop-i.invariant.3 ∙ head_agrees head_bytes _ _ (omega (arith, group_cases.head_length)) (omega arith) c.if-job-i-2.false,
+)
 
 pub walk_pages-requires : goal.walk_pages-requires
 walk_pages-requires c = (omega arith, c.loop-i.invariant.0)

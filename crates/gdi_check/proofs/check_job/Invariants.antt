@@ -1,13 +1,9 @@
 -- `gdi_check::check_job` meets its contract. The loop's invariant: the head's bytes before place i agree. Assumes nothing.
-use mathlib.Core.Path.{◌≡◌, refl, sym, ap, ◌∙◌}
-use mathlib.Core.List.{List}
-use Prim.Native.Nat.{ℕ, ◌-◌, ◌≤◌}
-use native.Mathlib.Omega.{arith}
-use borrow.Author.Tests.{lt-ltb, le-ltb}
+use mathlib.Core.Path.{◌≡◌}
+use Prim.Native.Nat.{◌-◌, ◌≤◌}
 use lib.ListN.{length, drop}
-use Rattle.gdi_jobs.specs.Groups.{codes, head_bytes, group_cases}
-use Rattle.gdi_jobs.specs.Jobs.{longest, between, walk, walk_head, job_answer, too_long}
-use Rattle.gdi_jobs.proofs.Jobs.{head_done, head_ends, head_agrees, head_differs}
+use Rattle.gdi_jobs.specs.Groups.{head_bytes}
+use Rattle.gdi_jobs.specs.Jobs.{longest, walk_head, job_answer}
 use Rattle.gdi_check.proofs.check_job.Given as goal
 
 abbrev pub invariant-loop-i : goal.invariant-loop-i

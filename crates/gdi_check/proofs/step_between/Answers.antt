@@ -1,7 +1,6 @@
 -- `gdi_check::step_between` meets its contract, for each kind of group. Assumes nothing.
 use mathlib.Core.Path.{◌≡◌, refl, sym, ap, ◌∙◌}
 use Prim.Native.Nat.{ℕ}
-use native.Mathlib.Omega.{arith}
 use lib.ListN.{length-drop}
 use Rattle.gdi_jobs.specs.Jobs.{stop, step_between}
 use Rattle.gdi_parse.specs.Answers.{group_of}

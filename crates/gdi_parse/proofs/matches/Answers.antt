@@ -1,13 +1,9 @@
 -- `gdi_parse::matches` meets its contract. The loop's invariant: the form from i on is to be held against the bytes from there on. Assumes nothing.
-use mathlib.Core.Path.{◌≡◌, sym, ◌∙◌}
+use mathlib.Core.Path.{sym, ◌∙◌}
 use mathlib.Core.Bool.{true, false}
-use Prim.Native.Nat.{◌-◌, ◌≤◌}
 use native.Mathlib.Omega.{arith}
 use borrow.Author.Tests.{not-true, not-false}
-use lib.ListN.{length}
-use Rattle.gdi_parse.proofs.Forms.{fits_from, fits-first, fits-done, fits_short, fits_byte}
-use Rattle.gdi_jobs.specs.Groups.{fits}
-use lib.ListN.{drop}
+use Rattle.gdi_parse.proofs.Forms.{fits-first, fits-done, fits_short, fits_byte}
 use Rattle.gdi_parse.proofs.matches.Goals as goal
 
 pub loop-i-init : goal.loop-i-init

@@ -1,11 +1,8 @@
 -- `gdi_parse::matches` meets its contract. The loop's invariant: the form from i on is to be held against the bytes from there on. Assumes nothing.
-use mathlib.Core.Path.{◌≡◌, sym, ◌∙◌}
-use mathlib.Core.Bool.{true, false}
+use mathlib.Core.Path.{◌≡◌}
 use Prim.Native.Nat.{◌-◌, ◌≤◌}
-use native.Mathlib.Omega.{arith}
-use borrow.Author.Tests.{not-true, not-false}
 use lib.ListN.{length}
-use Rattle.gdi_parse.proofs.Forms.{fits_from, fits-first, fits-done, fits_short, fits_byte}
+use Rattle.gdi_parse.proofs.Forms.{fits_from}
 use Rattle.gdi_jobs.specs.Groups.{fits}
 use lib.ListN.{drop}
 use Rattle.gdi_parse.proofs.matches.Given as goal

@@ -1,5 +1,4 @@
 -- `gdi_parse::number_at` meets its contract: two bytes below 256. Assumes nothing.
-use mathlib.Core.Path.{refl}
 use Prim.Native.Nat.{◌+◌}
 use native.Mathlib.Omega.{arith}
 use Rattle.gdi_parse.proofs.number_at.Goals as goal

@@ -1,6 +1,5 @@
 -- `gdi_read::put_dots` meets its contract. Assumes nothing.
 use mathlib.Core.Path.{sym, ◌∙◌}
-use native.Mathlib.Omega.{arith}
 use Rattle.gdi_read.proofs.Reading.{put_written, put_left}
 use Rattle.gdi_read.proofs.put_dots.Goals as goal
 

@@ -1,6 +1,4 @@
 -- `gdi_rows::put_at` meets its contract. Assumes nothing.
-use native.Mathlib.Omega.{arith}
-use borrow.Author.Rules.{rules}
 use Rattle.gdi_rows.proofs.Places.{put_part, put_past}
 use Rattle.gdi_rows.proofs.put_at.Goals as goal
 

@@ -2,9 +2,9 @@
 -- width. Assumes nothing.
 use mathlib.Core.Path.{refl, ◌∙◌}
 use mathlib.Core.Bool.{true}
-use Prim.Native.Nat.{◌-◌, ◌<◌, ◌≤◌}
+use Prim.Native.Nat.{◌≤◌}
 use native.Mathlib.Omega.{arith}
-use Rattle.gdi_rows.proofs.Rows.{command_le, Takes, block_takes, run_within, Walked, head_held, walked-first, walked_next, walked-done}
+use Rattle.gdi_rows.proofs.Rows.{command_le, Takes, block_takes, run_within, head_held, walked-first, walked_next, walked-done}
 use Rattle.gdi_rows.proofs.put_runs.Goals as goal
 
 pub loop-from-init : goal.loop-from-init
@@ -20,28 +20,28 @@ pub put_block_head-requires-in-loop-from : goal.put_block_head-requires-in-loop-
 put_block_head-requires-in-loop-from c =
     let few : c.command_size-n.result ≤ 2 = rw (c.command_size-n.ensures true) (command_le true _) in
     let takes : Takes c.loop-from.block.head c.loop-from.block.size c.command_size-n.result c.block_for-block.result.head c.block_for-block.result.size =
-      block_takes few c.block_for-block.ensures.head_value c.block_for-block.ensures.size_value in
+    block_takes few c.block_for-block.ensures.head_value c.block_for-block.ensures.size_value in
     takes.most
 
 pub overflow_add-block : goal.overflow_add-block
 overflow_add-block c =
     let few : c.command_size-n.result ≤ 2 = rw (c.command_size-n.ensures true) (command_le true _) in
     let takes : Takes c.loop-from.block.head c.loop-from.block.size c.command_size-n.result c.block_for-block.result.head c.block_for-block.result.size =
-      block_takes few c.block_for-block.ensures.head_value c.block_for-block.ensures.size_value in
+    block_takes few c.block_for-block.ensures.head_value c.block_for-block.ensures.size_value in
     omega (arith, takes.near, c.loop-from.invariant.few)
 
 pub overflow_add-block-in-loop-from : goal.overflow_add-block-in-loop-from
 overflow_add-block-in-loop-from c =
     let few : c.command_size-n.result ≤ 2 = rw (c.command_size-n.ensures true) (command_le true _) in
     let takes : Takes c.loop-from.block.head c.loop-from.block.size c.command_size-n.result c.block_for-block.result.head c.block_for-block.result.size =
-      block_takes few c.block_for-block.ensures.head_value c.block_for-block.ensures.size_value in
+    block_takes few c.block_for-block.ensures.head_value c.block_for-block.ensures.size_value in
     omega (arith, takes.near, c.loop-from.invariant.few)
 
 pub overflow_sub-block : goal.overflow_sub-block
 overflow_sub-block c =
     let few : c.command_size-n.result ≤ 2 = rw (c.command_size-n.ensures true) (command_le true _) in
     let takes : Takes c.loop-from.block.head c.loop-from.block.size c.command_size-n.result c.block_for-block.result.head c.block_for-block.result.size =
-      block_takes few c.block_for-block.ensures.head_value c.block_for-block.ensures.size_value in
+    block_takes few c.block_for-block.ensures.head_value c.block_for-block.ensures.size_value in
     omega (arith, takes.some)
 
 pub put_command-requires : goal.put_command-requires

@@ -1,10 +1,7 @@
 -- `gdi_rows::put_runs` meets its contract. The loop's invariant: the walk over the runs stands at dot `from`. The measure is what is left of the
 -- width. Assumes nothing.
-use mathlib.Core.Path.{refl, ◌∙◌}
-use mathlib.Core.Bool.{true}
-use Prim.Native.Nat.{◌-◌, ◌<◌, ◌≤◌}
-use native.Mathlib.Omega.{arith}
-use Rattle.gdi_rows.proofs.Rows.{command_le, Takes, block_takes, run_within, Walked, head_held, walked-first, walked_next, walked-done}
+use Prim.Native.Nat.{◌-◌}
+use Rattle.gdi_rows.proofs.Rows.{Walked}
 use Rattle.gdi_rows.proofs.put_runs.Given as goal
 
 abbrev pub invariant-loop-from : goal.invariant-loop-from

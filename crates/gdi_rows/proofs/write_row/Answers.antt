@@ -1,11 +1,9 @@
 -- `gdi_rows::write_row` meets its contract. Assumes nothing.
-use mathlib.Core.Path.{◌≡◌, sym, ◌∙◌}
-use mathlib.Core.Bool.{true}
+use mathlib.Core.Path.{sym, ◌∙◌}
 use native.Mathlib.Omega.{arith}
 use borrow.Author.Tests.{not-true, not-false, leb-true}
 use lib.ListN.{length}
 use Rattle.gdi_jobs.specs.Rows.{row_bytes}
-use Rattle.gdi_jobs.specs.Writers.{fits_width}
 use Rattle.gdi_write.proofs.Writers.{refusing, writing}
 use Rattle.gdi_rows.proofs.Refusals.{width_refused, row_refused, output_refused, row_written}
 use Rattle.gdi_rows.proofs.write_row.Goals as goal

@@ -1,6 +1,5 @@
 -- `gdi_write::write_page_head` meets its contract. Assumes nothing.
-use mathlib.Core.Path.{refl, sym, ◌∙◌}
-use native.Mathlib.Omega.{arith}
+use mathlib.Core.Path.{sym, ◌∙◌}
 use borrow.Author.Tests.{not-true, not-false}
 use Rattle.gdi_jobs.specs.Writers.{page_head_bytes}
 use Rattle.gdi_write.proofs.Writers.{refusing, same-writing, page_refused, page_put}

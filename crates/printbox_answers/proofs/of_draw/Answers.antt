@@ -1,5 +1,4 @@
 -- `printbox_answers::of_draw` meets its contract. Assumes nothing.
-use borrow.Author.Rules.{rules}
 use Rattle.printbox_answers.proofs.of_draw.Goals as goal
 
 pub returns-in-Done : goal.returns-in-Done

@@ -1,5 +1,4 @@
 -- `printbox_answers::of_fill` meets its contract. Assumes nothing.
-use borrow.Author.Rules.{rules}
 use Rattle.printbox_answers.proofs.of_fill.Goals as goal
 
 pub returns-in-Linefill : goal.returns-in-Linefill

@@ -1,5 +1,4 @@
 -- `printbox_answers::of_job` meets its contract. Assumes nothing.
-use borrow.Author.Rules.{rules}
 use Rattle.printbox_answers.proofs.of_job.Goals as goal
 
 pub returns-in-Pages : goal.returns-in-Pages

@@ -1,5 +1,4 @@
 -- `printbox_answers::of_line` meets its contract. Assumes nothing.
-use borrow.Author.Rules.{rules}
 use Rattle.printbox_answers.proofs.of_line.Goals as goal
 
 pub returns-in-Line : goal.returns-in-Line

@@ -1,5 +1,4 @@
 -- `printbox_answers::of_writing` meets its contract. Assumes nothing.
-use borrow.Author.Rules.{rules}
 use Rattle.printbox_answers.proofs.of_writing.Goals as goal
 
 pub returns-in-Bytes : goal.returns-in-Bytes

@@ -1,7 +1,6 @@
 -- `row::fill` meets its contract: stretches that meet are one stretch. Assumes nothing.
 use Prim.Native.Nat.{◌+◌, ◌*◌, ◌/◌}
 use native.Mathlib.Omega.{arith}
-use borrow.Author.Rules.{rules}
 use Rattle.row.proofs.Stretches.{fill_none, fill_join, filled-ends, fill_nothing}
 use Rattle.row.proofs.fill.Goals as goal
 

@@ -1,12 +1,8 @@
 -- `row::fill_bytes` meets its contract. The loop's invariant: the bytes from `from` up to i are filled, and the others are as they were.
 -- Assumes nothing.
-use mathlib.Core.Path.{◌≡◌}
-use Prim.Native.Nat.{◌≤◌, ◌<◌, ◌-◌, ◌*◌, max}
+use Prim.Native.Nat.{◌≤◌, ◌<◌, ◌*◌}
 use native.Mathlib.Omega.{arith}
-use borrow.Author.Tests.{ltb-true, ltb-false}
 use lib.ListN.{length}
-use Rattle.row.specs.Dots.{dot_at, row_of}
-use Rattle.row.specs.Stretches.{filled}
 use Rattle.row.proofs.Dots.{length_is}
 use Rattle.row.proofs.Stretches.{fill_none, fill_byte, fill_bytes_done}
 use Rattle.row.proofs.fill_bytes.Goals as goal

@@ -1,7 +1,5 @@
 -- `row::mask_from` meets its contract. Assumes nothing.
-use Prim.Native.Nat.{◌≤◌, ◌/◌, ◌^◌}
 use native.Mathlib.Omega.{arith}
-use borrow.Author.Rules.{rules}
 use lib.Pow.{shr_le}
 use Rattle.row.proofs.Stretches.{shift_le}
 use Rattle.row.proofs.mask_from.Goals as goal

@@ -1,12 +1,8 @@
 -- `row::ones_capped` meets its contract. The loop's invariant: n is the count of the first i bytes, as far as the type goes. Assumes nothing.
-use mathlib.Core.Path.{◌≡◌, refl, ap, ◌∙◌}
-use Prim.Native.Nat.{ℕ, ◌≤◌, ◌-◌, ◌^◌, min}
-use native.Mathlib.Omega.{arith}
-use lib.Count.{ones, ones-le}
-use lib.ListN.{length, get_or, take}
-use lib.Seq.{take-length}
+use mathlib.Core.Path.{◌≡◌}
+use Prim.Native.Nat.{◌≤◌, ◌-◌, ◌^◌, min}
+use lib.ListN.{length, take}
 use Rattle.row.specs.Counts.{ones_of}
-use Rattle.row.proofs.Counts.{ones-take}
 use Rattle.row.proofs.ones_capped.Given as goal
 
 abbrev pub invariant-loop-i : goal.invariant-loop-i

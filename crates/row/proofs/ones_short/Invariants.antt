@@ -1,12 +1,8 @@
 -- `row::ones_short` meets its contract. The loop's invariant: `sum` is the count of the first j bytes. Assumes nothing.
-use mathlib.Core.Path.{◌≡◌, refl, ap, ◌∙◌}
-use Prim.Native.Nat.{ℕ, ◌≤◌, ◌-◌, ◌*◌}
-use native.Mathlib.Omega.{arith}
-use lib.Count.{ones, ones-le}
-use lib.ListN.{length, get_or, take}
-use lib.Seq.{take-length}
+use mathlib.Core.Path.{◌≡◌}
+use Prim.Native.Nat.{◌≤◌, ◌-◌, ◌*◌}
+use lib.ListN.{length, take}
 use Rattle.row.specs.Counts.{ones_of}
-use Rattle.row.proofs.Counts.{ones-take}
 use Rattle.row.proofs.ones_short.Given as goal
 
 abbrev pub invariant-loop-j : goal.invariant-loop-j

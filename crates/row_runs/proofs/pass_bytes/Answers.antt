@@ -1,11 +1,5 @@
 -- `row_runs::pass_bytes` meets its contract. The loop's invariant: the search over the dots of the bytes from `from` up to i finds none. Assumes nothing.
-use mathlib.Core.Path.{◌≡◌}
-use Prim.Native.Nat.{◌≤◌, ◌<◌, ◌-◌, ◌*◌, max}
 use native.Mathlib.Omega.{arith}
-use borrow.Author.Tests.{ltb-true}
-use lib.ListN.{length}
-use Rattle.row.specs.Dots.{dot_at}
-use Rattle.row_runs.specs.Runs.{first_not}
 use Rattle.row_runs.proofs.Runs.{first_none, first_byte}
 use Rattle.row_runs.proofs.pass_bytes.Goals as goal
 

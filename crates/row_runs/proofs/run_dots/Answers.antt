@@ -1,10 +1,7 @@
 -- `row_runs::run_dots` meets its contract. The loop's invariant: the search from `end` on finds what the search from `from` on finds. Assumes nothing.
-use mathlib.Core.Path.{◌≡◌, refl, sym, ◌∙◌}
-use Prim.Native.Nat.{◌≤◌, ◌-◌, max}
+use mathlib.Core.Path.{refl, sym, ◌∙◌}
 use native.Mathlib.Omega.{arith}
 use borrow.Author.Tests.{not-true, not-false}
-use Rattle.row.specs.Dots.{dot_at}
-use Rattle.row_runs.specs.Runs.{first_not}
 use Rattle.truth.proofs.Tests.{beq_is, beq_other}
 use Rattle.row_runs.proofs.Runs.{first_on, first_here, first_none}
 use Rattle.row_runs.proofs.run_dots.Goals as goal

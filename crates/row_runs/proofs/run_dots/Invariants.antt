@@ -1,12 +1,8 @@
 -- `row_runs::run_dots` meets its contract. The loop's invariant: the search from `end` on finds what the search from `from` on finds. Assumes nothing.
-use mathlib.Core.Path.{◌≡◌, refl, sym, ◌∙◌}
+use mathlib.Core.Path.{◌≡◌}
 use Prim.Native.Nat.{◌≤◌, ◌-◌, max}
-use native.Mathlib.Omega.{arith}
-use borrow.Author.Tests.{not-true, not-false}
 use Rattle.row.specs.Dots.{dot_at}
 use Rattle.row_runs.specs.Runs.{first_not}
-use Rattle.truth.proofs.Tests.{beq_is, beq_other}
-use Rattle.row_runs.proofs.Runs.{first_on, first_here, first_none}
 use Rattle.row_runs.proofs.run_dots.Given as goal
 
 abbrev pub invariant-loop-end : goal.invariant-loop-end

@@ -1,10 +1,7 @@
 -- `row_runs::spare_clear` meets its contract. The loop's invariant: the answer is that of the dots from dot k of byte `at` on. Assumes nothing.
-use mathlib.Core.Path.{◌≡◌, sym, ◌∙◌}
-use Prim.Native.Nat.{◌<◌, ◌-◌}
+use mathlib.Core.Path.{sym, ◌∙◌}
 use native.Mathlib.Omega.{arith}
-use lib.ListN.{length}
-use Rattle.row_runs.specs.Spare.{spare_clear}
-use Rattle.row_runs.proofs.Spare.{clear_rest, rest_first, rest_set, rest_on, rest_none}
+use Rattle.row_runs.proofs.Spare.{rest_first, rest_set, rest_on, rest_none}
 use Rattle.row_runs.proofs.spare_clear.Goals as goal
 
 pub loop-at-init : goal.loop-at-init

@@ -1,10 +1,9 @@
 -- `row_runs::spare_clear` meets its contract. The loop's invariant: the answer is that of the dots from dot k of byte `at` on. Assumes nothing.
-use mathlib.Core.Path.{◌≡◌, sym, ◌∙◌}
+use mathlib.Core.Path.{◌≡◌}
 use Prim.Native.Nat.{◌<◌, ◌-◌}
-use native.Mathlib.Omega.{arith}
 use lib.ListN.{length}
 use Rattle.row_runs.specs.Spare.{spare_clear}
-use Rattle.row_runs.proofs.Spare.{clear_rest, rest_first, rest_set, rest_on, rest_none}
+use Rattle.row_runs.proofs.Spare.{clear_rest}
 use Rattle.row_runs.proofs.spare_clear.Given as goal
 
 abbrev pub invariant-loop-at : goal.invariant-loop-at

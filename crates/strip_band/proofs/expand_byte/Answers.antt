@@ -1,5 +1,4 @@
 -- `strip_band::expand_byte` meets its contract. Assumes nothing.
-use borrow.Author.Rules.{rules}
 use native.Mathlib.Omega.{arith}
 use Rattle.strip_band.proofs.Laws.{put_first, copied_over, copied_fits, literal_over, literal_fits}
 use Rattle.strip_band.proofs.expand_byte.Goals as goal

@@ -1,11 +1,7 @@
 -- `strip_band::expanded` meets its contract. Assumes nothing.
-use Prim.Native.Nat.{◌≤◌, ◌-◌}
-use mathlib.Core.Path.{◌≡◌, refl}
-use lib.ListN.{length, drop, replicate}
+use mathlib.Core.Path.{refl}
+use lib.ListN.{replicate}
 use native.Mathlib.Omega.{arith}
-use Rattle.strip.specs.declared.Run.TheVariants.{First}
-use Rattle.strip.specs.Coding.{expand_from}
-use Rattle.strip_band.specs.Puts.{expansion_from}
 use Rattle.strip_band.proofs.Laws.{expand_begins, expand-more, expand_over, expand-ends}
 use Rattle.strip_band.proofs.expanded.Goals as goal
 

@@ -1,12 +1,10 @@
 -- `strip_band::expanded` meets its contract. Assumes nothing.
 use Prim.Native.Nat.{◌≤◌, ◌-◌}
-use mathlib.Core.Path.{◌≡◌, refl}
-use lib.ListN.{length, drop, replicate}
-use native.Mathlib.Omega.{arith}
+use mathlib.Core.Path.{◌≡◌}
+use lib.ListN.{length, drop}
 use Rattle.strip.specs.declared.Run.TheVariants.{First}
 use Rattle.strip.specs.Coding.{expand_from}
 use Rattle.strip_band.specs.Puts.{expansion_from}
-use Rattle.strip_band.proofs.Laws.{expand_begins, expand-more, expand_over, expand-ends}
 use Rattle.strip_band.proofs.expanded.Given as goal
 
 abbrev pub invariant-loop-i : goal.invariant-loop-i

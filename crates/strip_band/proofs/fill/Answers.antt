@@ -1,5 +1,4 @@
 -- `strip_band::fill` meets its contract. Assumes nothing.
-use Prim.Native.Nat.{◌≤◌, ◌-◌}
 use mathlib.Core.Path.{◌≡◌, ap, ◌∙◌}
 use lib.ListN.{replicate}
 use lib.Seq.{paste, paste-zero}

@@ -1,10 +1,8 @@
 -- `strip_band::fill` meets its contract. Assumes nothing.
 use Prim.Native.Nat.{◌≤◌, ◌-◌}
-use mathlib.Core.Path.{◌≡◌, ap, ◌∙◌}
+use mathlib.Core.Path.{◌≡◌}
 use lib.ListN.{replicate}
-use lib.Seq.{paste, paste-zero}
-use native.Mathlib.Omega.{arith}
-use Rattle.strip_band.proofs.Laws.{fill_more}
+use lib.Seq.{paste}
 use Rattle.strip_band.proofs.fill.Given as goal
 
 abbrev pub invariant-loop-i : goal.invariant-loop-i

@@ -1,7 +1,6 @@
 -- `strip_band::plain` meets its contract. Assumes nothing.
-use Prim.Native.Nat.{◌≤◌, ◌-◌}
-use mathlib.Core.Path.{◌≡◌, refl, ◌∙◌}
-use lib.ListN.{length, take, length-set}
+use mathlib.Core.Path.{refl, ◌∙◌}
+use lib.ListN.{length-set}
 use native.Mathlib.Omega.{arith}
 use Rattle.strip_band.proofs.Laws.{no_band, copy_more, copy_ends}
 use Rattle.strip_band.proofs.plain.Goals as goal

@@ -1,9 +1,7 @@
 -- `strip_band::plain` meets its contract. Assumes nothing.
 use Prim.Native.Nat.{◌≤◌, ◌-◌}
-use mathlib.Core.Path.{◌≡◌, refl, ◌∙◌}
-use lib.ListN.{length, take, length-set}
-use native.Mathlib.Omega.{arith}
-use Rattle.strip_band.proofs.Laws.{no_band, copy_more, copy_ends}
+use mathlib.Core.Path.{◌≡◌}
+use lib.ListN.{length, take}
 use Rattle.strip_band.proofs.plain.Given as goal
 
 abbrev pub invariant-loop-i : goal.invariant-loop-i

@@ -1,5 +1,4 @@
 -- `strip_close::body_at` meets its contract. Assumes nothing.
-use borrow.Author.Rules.{rules}
 use native.Mathlib.Omega.{arith}
 use Rattle.strip_close.proofs.Laws.{came, not_come}
 use Rattle.strip_close.proofs.body_at.Goals as goal

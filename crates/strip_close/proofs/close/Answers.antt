@@ -2,7 +2,6 @@
 use mathlib.Core.Path.{sym, ◌∙◌}
 use Rattle.strip.proofs.Laws.{roomy}
 use Rattle.strip_close.proofs.Laws.{not_taken, is_taken}
-use borrow.Author.Rules.{rules}
 use Rattle.strip_close.proofs.close.Goals as goal
 
 pub returns-then-is_unusable : goal.returns-then-is_unusable

@@ -1,8 +1,8 @@
 -- `strip_close::place_band` meets its contract. Assumes nothing.
-use Prim.Native.Nat.{◌≤◌, ◌-◌, ◌*◌}
-use mathlib.Core.Path.{◌≡◌, refl, ◌∙◌, ap}
+use Prim.Native.Nat.{◌*◌}
+use mathlib.Core.Path.{refl, ◌∙◌, ap}
 use lib.ListN.{length}
-use lib.Seq.{paste, paste-zero, length-paste}
+use lib.Seq.{paste-zero, length-paste}
 use native.Mathlib.Omega.{arith}
 use Rattle.strip_close.proofs.Laws.{band_more, band_done}
 use Rattle.strip_close.proofs.place_band.Goals as goal

@@ -1,10 +1,7 @@
 -- `strip_close::place_band` meets its contract. Assumes nothing.
 use Prim.Native.Nat.{◌≤◌, ◌-◌, ◌*◌}
-use mathlib.Core.Path.{◌≡◌, refl, ◌∙◌, ap}
-use lib.ListN.{length}
-use lib.Seq.{paste, paste-zero, length-paste}
-use native.Mathlib.Omega.{arith}
-use Rattle.strip_close.proofs.Laws.{band_more, band_done}
+use mathlib.Core.Path.{◌≡◌}
+use lib.Seq.{paste}
 use Rattle.strip_close.proofs.place_band.Given as goal
 
 abbrev pub invariant-loop-i : goal.invariant-loop-i

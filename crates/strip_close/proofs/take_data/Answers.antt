@@ -1,8 +1,6 @@
 -- `strip_close::take_data` meets its contract. Assumes nothing.
-use Prim.Native.Nat.{ℕ}
 use native.Mathlib.Omega.{arith}
 use mathlib.Core.Path.{◌≡◌, ◌∙◌}
-use borrow.Author.Rules.{length_unmapped}
 use borrow.Author.Tests.{not-true, not-false}
 use lib.ListN.{length}
 use Rattle.strip_close.proofs.Laws.{left_ended, left_refused, left_added, data_none, data_tenth, data_band, chosen_none, chosen_band}

@@ -1,6 +1,5 @@
 -- `strip_close::take_print` meets its contract. Assumes nothing.
 use Rattle.strip_close.proofs.Laws.{shown}
-use borrow.Author.Rules.{rules}
 use Rattle.strip_close.proofs.take_print.Goals as goal
 
 pub returns : goal.returns

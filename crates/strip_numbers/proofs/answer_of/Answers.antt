@@ -1,7 +1,6 @@
 -- `strip_numbers::answer_of` meets its contract. Assumes nothing.
 use mathlib.Core.Path.{sym, ap, ◌∙◌}
 use Rattle.strip_numbers.specs.Numbers.{answer_of}
-use borrow.Author.Rules.{rules}
 use Rattle.strip_numbers.proofs.answer_of.Goals as goal
 
 pub returns-in-Reply : goal.returns-in-Reply

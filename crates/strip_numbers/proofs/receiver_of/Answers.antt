@@ -1,5 +1,4 @@
 -- `strip_numbers::receiver_of` meets its contract. Assumes nothing.
-use borrow.Author.Rules.{rules}
 use Rattle.strip_numbers.proofs.Laws.{to_receiver}
 use Rattle.strip_numbers.proofs.receiver_of.Goals as goal
 

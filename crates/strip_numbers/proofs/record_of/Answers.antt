@@ -1,5 +1,4 @@
 -- `strip_numbers::record_of` meets its contract. Assumes nothing.
-use borrow.Author.Rules.{rules}
 use Rattle.strip_numbers.proofs.Laws.{to_record}
 use Rattle.strip_numbers.proofs.record_of.Goals as goal
 

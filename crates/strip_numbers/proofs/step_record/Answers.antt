@@ -1,6 +1,5 @@
 -- `strip_numbers::step_record` meets its contract. Assumes nothing.
 use Rattle.strip_numbers.proofs.Laws.{not_taken, steps}
-use borrow.Author.Rules.{rules}
 use Rattle.strip_numbers.proofs.step_record.Goals as goal
 
 pub returns-then-is_unusable : goal.returns-then-is_unusable

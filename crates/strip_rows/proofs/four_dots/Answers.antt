@@ -1,6 +1,5 @@
 -- `strip_rows::four_dots` meets its contract. Assumes nothing.
 use Prim.Native.Nat.{◌+◌, ◌*◌}
-use native.Mathlib.Omega.{arith}
 use Rattle.strip_rows.proofs.four_dots.Goals as goal
 
 pub returns : goal.returns

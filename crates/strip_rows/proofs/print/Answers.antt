@@ -1,5 +1,4 @@
 -- `strip_rows::print` meets its contract. Assumes nothing.
-use borrow.Author.Rules.{rules}
 use native.Mathlib.Omega.{arith}
 use Rattle.strip_rows.proofs.Laws.{prints, prints_nothing}
 use Rattle.strip_rows.proofs.print.Goals as goal

@@ -1,10 +1,9 @@
 -- `strip_rows::rows` meets its contract. Assumes nothing.
-use Prim.Native.Nat.{◌<◌, ◌≤◌, ◌+◌, ◌*◌, ◌-◌}
-use mathlib.Core.Path.{◌≡◌, refl}
+use Prim.Native.Nat.{◌<◌, ◌+◌}
+use mathlib.Core.Path.{refl}
 use lib.ListN.{length, length-set}
 use native.Mathlib.Omega.{arith}
-use Rattle.strip.specs.Dots.{four_dots}
-use Rattle.strip_rows.proofs.Laws.{written, begins, in_bands, pair_goes_on, ends}
+use Rattle.strip_rows.proofs.Laws.{begins, in_bands, pair_goes_on, ends}
 use Rattle.strip_rows.proofs.rows.Goals as goal
 
 pub loop-i-init : goal.loop-i-init

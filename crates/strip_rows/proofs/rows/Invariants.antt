@@ -1,10 +1,9 @@
 -- `strip_rows::rows` meets its contract. Assumes nothing.
-use Prim.Native.Nat.{◌<◌, ◌≤◌, ◌+◌, ◌*◌, ◌-◌}
-use mathlib.Core.Path.{◌≡◌, refl}
-use lib.ListN.{length, length-set}
-use native.Mathlib.Omega.{arith}
+use Prim.Native.Nat.{◌≤◌, ◌*◌, ◌-◌}
+use mathlib.Core.Path.{◌≡◌}
+use lib.ListN.{length}
 use Rattle.strip.specs.Dots.{four_dots}
-use Rattle.strip_rows.proofs.Laws.{written, begins, in_bands, pair_goes_on, ends}
+use Rattle.strip_rows.proofs.Laws.{written}
 use Rattle.strip_rows.proofs.rows.Given as goal
 
 abbrev pub invariant-loop-i : goal.invariant-loop-i

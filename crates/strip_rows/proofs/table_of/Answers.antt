@@ -1,9 +1,6 @@
 -- `strip_rows::table_of` meets its contract. Assumes nothing.
-use Prim.Native.Nat.{◌≤◌, ◌-◌}
-use mathlib.Core.Path.{◌≡◌}
 use native.Mathlib.Omega.{arith}
-use Rattle.strip_rows.specs.Table.{entry_of}
-use Rattle.strip_rows.proofs.Laws.{written, zeros, table_begins, table_goes_on, table_ends}
+use Rattle.strip_rows.proofs.Laws.{table_begins, table_goes_on, table_ends}
 use Rattle.strip_rows.proofs.table_of.Goals as goal
 
 pub loop-k-init : goal.loop-k-init

@@ -1,5 +1,5 @@
 -- `strip_step::body_byte` meets its contract. Assumes nothing.
-use Rattle.std.proofs.Common.{arith, rules}
+use Rattle.std.proofs.Common.{arith}
 use Rattle.strip_step.proofs.Laws.{byte_kept, byte_dropped}
 use Rattle.strip_step.proofs.body_byte.Goals as goal
 

@@ -1,5 +1,5 @@
 -- `strip_step::header_end` meets its contract. Assumes nothing.
-use Rattle.std.proofs.Common.{sym, ◌∙◌, rules}
+use Rattle.std.proofs.Common.{sym, ◌∙◌}
 use Rattle.strip_step.proofs.Laws.{header_fits, header_refused}
 use Rattle.strip_step.proofs.header_end.Goals as goal
 

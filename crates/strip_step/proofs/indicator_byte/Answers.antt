@@ -1,5 +1,5 @@
 -- `strip_step::indicator_byte` meets its contract. Assumes nothing.
-use Rattle.std.proofs.Common.{ap, ◌∙◌, rules}
+use Rattle.std.proofs.Common.{ap, ◌∙◌}
 use Rattle.strip.specs.declared.Phase.TheVariants.{Low}
 use Rattle.strip.specs.Step.{noted}
 use Rattle.strip_step.proofs.indicator_byte.Goals as goal

@@ -1,5 +1,5 @@
 -- `strip_step::low_byte` meets its contract. Assumes nothing.
-use Rattle.std.proofs.Common.{ap, ◌∙◌, rules}
+use Rattle.std.proofs.Common.{ap, ◌∙◌}
 use Rattle.strip.specs.declared.Phase.TheVariants.{High}
 use Rattle.strip.specs.Step.{noted}
 use Rattle.strip_step.proofs.low_byte.Goals as goal

@@ -1,5 +1,5 @@
 -- `strip_step::step` meets its contract. Assumes nothing.
-use Rattle.std.proofs.Common.{sym, ◌∙◌, rules}
+use Rattle.std.proofs.Common.{sym, ◌∙◌}
 use Rattle.strip_step.proofs.Laws.{step-taken, not_taken}
 use Rattle.strip_step.proofs.step.Goals as goal
 

@@ -1,5 +1,5 @@
 -- `strip_step::take_byte` meets its contract. Assumes nothing.
-use Rattle.std.proofs.Common.{refl, ap, ◌∙◌, rules}
+use Rattle.std.proofs.Common.{refl, ap, ◌∙◌}
 use Rattle.strip.specs.declared.Phase.TheVariants.{Hunt, Mark, Command, Indicator, Low, High, Body, SumLow, SumHigh, ClockFirst, ClockSecond}
 use Rattle.strip.specs.declared.Answer.TheVariants.{Reply}
 use Rattle.strip.specs.Step.{at, leaves}

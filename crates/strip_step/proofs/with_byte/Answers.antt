@@ -1,5 +1,4 @@
 -- `strip_step::with_byte` meets its contract. Assumes nothing.
-use Rattle.std.proofs.Common.{rules}
 use Rattle.strip_step.proofs.Laws.{byte_noted}
 use Rattle.strip_step.proofs.with_byte.Goals as goal
 

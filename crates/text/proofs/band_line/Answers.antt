@@ -1,6 +1,4 @@
 -- `text::band_line` meets its contract. Assumes nothing.
-use mathlib.Core.Path.{refl}
-use native.Mathlib.Omega.{arith}
 use Rattle.text.specs.Lines.{page_label, band_label, rows_label, dots_label, band_line}
 use Rattle.text.proofs.Lines.{line_put, band_made}
 use Rattle.text.proofs.band_line.Goals as goal

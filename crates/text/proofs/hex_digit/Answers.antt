@@ -1,5 +1,4 @@
 -- `text::hex_digit` meets its contract. Assumes nothing.
-use native.Mathlib.Omega.{arith}
 use Rattle.text.proofs.Numbers.{hex_digit_low, hex_digit_high}
 use Rattle.text.proofs.hex_digit.Goals as goal
 

@@ -1,6 +1,4 @@
 -- `text::pages_line` meets its contract. Assumes nothing.
-use mathlib.Core.Path.{refl}
-use native.Mathlib.Omega.{arith}
 use Rattle.text.specs.Lines.{pages_label, bands_label, pages_line}
 use Rattle.text.proofs.Lines.{line_put}
 use Rattle.text.proofs.pages_line.Goals as goal

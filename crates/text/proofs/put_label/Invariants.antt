@@ -1,6 +1,5 @@
 -- `text::put_label` meets its contract. The loop's invariant: the label from its byte i on stands before place `end`. Assumes nothing.
-use native.Mathlib.Omega.{arith}
-use Rattle.text.proofs.Lines.{Labelled, labelled_first, labelled_next, labelled_done}
+use Rattle.text.proofs.Lines.{Labelled}
 use Rattle.text.proofs.put_label.Given as goal
 
 abbrev pub invariant-loop-i : goal.invariant-loop-i

@@ -2,7 +2,7 @@
 -- The measure is `rest`. Assumes nothing.
 use native.Mathlib.Omega.{arith}
 use lib.ListN.{length-set}
-use Rattle.text.proofs.Lines.{Numbered, numbered-first, numbered_more, numbered_next, numbered-done}
+use Rattle.text.proofs.Lines.{numbered-first, numbered_more, numbered_next, numbered-done}
 use Rattle.text.proofs.put_number.Goals as goal
 
 pub loop-rest-init : goal.loop-rest-init

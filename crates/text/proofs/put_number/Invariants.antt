@@ -1,8 +1,6 @@
 -- `text::put_number` meets its contract. The loop's invariant: the digits put so far stand before place `end`, and `rest` is what is left of n.
 -- The measure is `rest`. Assumes nothing.
-use native.Mathlib.Omega.{arith}
-use lib.ListN.{length-set}
-use Rattle.text.proofs.Lines.{Numbered, numbered-first, numbered_more, numbered_next, numbered-done}
+use Rattle.text.proofs.Lines.{Numbered}
 use Rattle.text.proofs.put_number.Given as goal
 
 abbrev pub invariant-loop-rest : goal.invariant-loop-rest

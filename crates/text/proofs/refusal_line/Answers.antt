@@ -1,6 +1,4 @@
 -- `text::refusal_line` meets its contract. Assumes nothing.
-use mathlib.Core.Path.{refl}
-use native.Mathlib.Omega.{arith}
 use Rattle.text.specs.Lines.{refused_label, at_label, refusal_line}
 use Rattle.text.proofs.Lines.{line_put}
 use Rattle.text.proofs.refusal_line.Goals as goal

@@ -1,9 +1,8 @@
 -- `text::row_line` meets its contract. The loop's invariant: the digits of the row's first i bytes are put. Assumes nothing.
-use Prim.Native.Nat.{◌-◌}
 use native.Mathlib.Omega.{arith}
-use lib.ListN.{length, length-set}
+use lib.ListN.{length-set}
 use Rattle.buffers.proofs.Buffers.{begun_written, counted, too_short, too_short_count}
-use Rattle.text.proofs.Lines.{Rowed, row_length_lem, row_short, rowed_first, rowed_next, rowed_last}
+use Rattle.text.proofs.Lines.{row_length_lem, row_short, rowed_first, rowed_next, rowed_last}
 use Rattle.text.proofs.row_line.Goals as goal
 
 pub returns-then-out-row : goal.returns-then-out-row

@@ -7,28 +7,28 @@ use Rattle.gdi_write.proofs.Paper.linefill.Goals as goal
 
 pub returns-then-self-lt1 : goal.returns-then-self-lt1
 returns-then-self-lt1 c = record {
-      result_value = fill_refused _ (admitted_no _ (λ h. omega arith));
-      a4_value = refl;
-      a5_value = refl;
-      letter_value = refl;
-      monarch_value = refl;
-    }
+  result_value = fill_refused _ (admitted_no _ (λ h. omega arith));
+  a4_value = refl;
+  a5_value = refl;
+  letter_value = refl;
+  monarch_value = refl;
+}
 
 pub returns-then-self-gt-WIDEST : goal.returns-then-self-gt-WIDEST
 returns-then-self-gt-WIDEST c = record {
-      result_value = fill_refused _ (admitted_no _ (λ h. omega arith));
-      a4_value = refl;
-      a5_value = refl;
-      letter_value = refl;
-      monarch_value = refl;
-    }
+  result_value = fill_refused _ (admitted_no _ (λ h. omega arith));
+  a4_value = refl;
+  a5_value = refl;
+  letter_value = refl;
+  monarch_value = refl;
+}
 
 pub returns : goal.returns
 unfolding linefill_of
 returns c = record {
-      result_value = fill_given _ (omega arith) (omega arith);
-      a4_value = refl;
-      a5_value = refl;
-      letter_value = refl;
-      monarch_value = refl;
-    }
+  result_value = fill_given _ (omega arith) (omega arith);
+  a4_value = refl;
+  a5_value = refl;
+  letter_value = refl;
+  monarch_value = refl;
+}
