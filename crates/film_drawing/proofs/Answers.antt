@@ -28,7 +28,6 @@ use Rattle.film_drawing.specs.Demand3.{Passes, Has, size_of, rows_of_picture}
 use Rattle.film_drawing.proofs.Rows.{drop-numbered, take-numbered, numbered-same, length_rows}
 use Rattle.film_drawing.proofs.Pages.{passed, Holds, pages_in, page_passed, band_passed, before, There, there}
 
--- ---- a sheet that the check passes with its load
 
 -- nothing is wrong before the walk, and after the herald's words come its pages
 pub record Known (sheet load : List ℕ) : Type 0 where
@@ -59,7 +58,6 @@ known sheet load p =
       holds = g.1;
     }
 
--- ---- the rows
 
 -- line band_s_size · b + i is held by band b
 holds : (B b i : ℕ) → i < B → (B * b + i) / B ≡ b
@@ -91,7 +89,6 @@ strokes_are load t = ap (λ (x : Answer Span). strokes_in (load_words load) (giv
 pub rows_size : (sheet load : List ℕ) (page b : ℕ) → length (rows_of_picture sheet load page b) ≡ size_of sheet page b
 rows_size sheet load page b = ap length (rows_are sheet load page b) ∙ length_rows _ _ _ _
 
--- ---- the answer
 
 -- 11, by whether the page and the band are there
 table_11 : (x y : Bool) (ls : List Line) → (x ≡ true → y ≡ true → ⊥) → first (refuse 11 0 (not x || not y) ∷ ls) ≡ refused 11 0

@@ -201,7 +201,7 @@ module _ (h : Herald) (m : ℕ) where
       → pages_from h m (suc k) p (laid page_words (bs ∷ pages))
       ≡ page_head (whole_film h) (bands_then (length bs) (suc p) (laid band_words bs ++ laid page_words pages) (pages_from h m k))
   unfolding pages_from laid
-  page_step bs pages k p e = rw (eq-eqb (length bs) m e, ← e) refl
+  page_step bs pages k p e = rw (eq-eqb (length bs) m e, e) refl
 
   -- band j of page i of those that are laid down from place p on
   met_laid : (k : ℕ) (pages : List (List (List ℕ))) (p i j : ℕ) → map length pages ≡ replicate k m → i < k → j < m

@@ -8,8 +8,6 @@ use native.Mathlib.Decide.{dec_lt}
 use borrow.Author.Tests.{eq-eqb, ne_eqb, lt-ltb, le-ltb}
 use lib.Dec.{ltb}
 use lib.ListN.{length}
-use types.Run.{OneOf, miss}
-use denote.Enum.Declared.{tag_of}
 use Rattle.row.specs.Dots.{dot_at, row_of}
 use Rattle.row.specs.Stretches.{filled}
 use Rattle.truth.proofs.Tests.{is_false}
@@ -24,7 +22,6 @@ use Rattle.gdi_read.specs.Answers.{line_read_as}
 use Rattle.gdi_read.specs.declared.LineRead as code
 use Rattle.gdi_read.specs.declared.LineRead.TheVariants as variants
 use Rattle.gdi_read.specs.Functions.{Passed}
-use Rattle.gdi_read.specs.contracts.LineRead.{the_type}
 use Rattle.gdi_read.proofs.Reading.{line_on}
 
 -- ---- the refusals before the pass
@@ -66,14 +63,11 @@ pub refused_so : (width : ℕ) (l : Line) (held : List ℕ) (number place : ℕ)
 unfolding row_after
 refused_so width l held number place e = (sym (ap answer_of e), rw e refl)
 
--- the tags of a page end and of a refusal
-abbrev others : List ℕ
-others = 1 ∷ 2 ∷ []
-
--- at which the row stays
-stays : (width : ℕ) (l : Line) (held : List ℕ) (r : code.LineRead) → OneOf others (tag_of the_type r) → line_read_as r ≡ answer_of l → held ≡ row_after width l held
+-- at a page end and after a refusal the row stays
+stays : (width : ℕ) (l : Line) (held : List ℕ) (r : code.LineRead) → ((q k : ℕ) → r ≡ variants.Line q k → ⊥) → line_read_as r ≡ answer_of l
+    → held ≡ row_after width l held
 unfolding row_after
-stays width (line cs p left) held (variants.Line q k) o e = absurd (miss others 0 tt o)
+stays width (line cs p left) held (variants.Line q k) o e = absurd (o q k refl)
 stays width (line cs p left) held (variants.PageEnd q k) o e = never (cc)
 stays width (line cs p left) held (variants.Refused number q) o e = never (cc)
 stays width (page_end p) held r o e = refl
@@ -85,7 +79,7 @@ module _ (width : ℕ) (l k : Line) (held row : List ℕ) (r : code.LineRead) (e
   told_so = first.answer ∙ ap answer_of (sym e)
 
   -- which is no line
-  pub other_so : OneOf others (tag_of the_type r) → Answered width l held (line_read_as r) row
+  pub other_so : ((q k : ℕ) → r ≡ variants.Line q k → ⊥) → Answered width l held (line_read_as r) row
   other_so o = (told_so, first.kept refl ∙ stays width l held r o told_so)
 
   -- which is a line, so that the second pass writes it, and then what is past the width is cleared

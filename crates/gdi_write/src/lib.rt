@@ -60,10 +60,10 @@ impl Paper {
     // The command of a white line of the paper's width, its first byte in the high byte.
     pub fn linefill(self) -> Filled
         ensures result_value { filled_as result ≡ fill_answer self.width }
-        ensures* a4_value { do ⌜ a4 ≡ record { width = (← (⟦Paper::A4.width⟧).entry); height = (← (⟦Paper::A4.height⟧).entry); index = (← (⟦Paper::A4.index⟧).entry) } ⌝ }
-        ensures* a5_value { do ⌜ a5 ≡ record { width = (← (⟦Paper::A5.width⟧).entry); height = (← (⟦Paper::A5.height⟧).entry); index = (← (⟦Paper::A5.index⟧).entry) } ⌝ }
-        ensures* letter_value { do ⌜ letter ≡ record { width = (← (⟦Paper::LETTER.width⟧).entry); height = (← (⟦Paper::LETTER.height⟧).entry); index = (← (⟦Paper::LETTER.index⟧).entry) } ⌝ }
-        ensures* monarch_value { do ⌜ monarch ≡ record { width = (← (⟦Paper::MONARCH.width⟧).entry); height = (← (⟦Paper::MONARCH.height⟧).entry); index = (← (⟦Paper::MONARCH.index⟧).entry) } ⌝ }
+        ensures a4_value { a4 ≡ record { width = Paper.A4.width; height = Paper.A4.height; index = Paper.A4.index } }
+        ensures a5_value { a5 ≡ record { width = Paper.A5.width; height = Paper.A5.height; index = Paper.A5.index } }
+        ensures letter_value { letter ≡ record { width = Paper.LETTER.width; height = Paper.LETTER.height; index = Paper.LETTER.index } }
+        ensures monarch_value { monarch ≡ record { width = Paper.MONARCH.width; height = Paper.MONARCH.height; index = Paper.MONARCH.index } }
     {
         if self.width < 1 {
             return Filled::Refused(27, 0);

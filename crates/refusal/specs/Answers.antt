@@ -27,7 +27,6 @@ Verdict = Answer Unit
 abbrev pub fine : Verdict
 fine = given tt
 
--- ---- worked cases
 
 abbrev next : ℕ → Answer ℕ
 next n = given (n + 1)

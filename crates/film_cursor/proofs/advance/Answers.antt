@@ -9,47 +9,23 @@ use Rattle.film_words.proofs.Parts.{part_past, part_empty}
 use Rattle.film_cursor.proofs.Cursors.{step_end, step-refused, step_paint, step_priority, step_ink, step_clear, step-tile}
 use Rattle.film_cursor.proofs.advance.Goals as goal
 
--- the sheet's bytes, and that it has all words of the band, where the reader has answered
-abbrev sheet : goal.After-stopped → List ℕ
-sheet r = r.before.before.before.before.before.args.sheet.now
+room : (r : goal.After-stopped) → r.args.end ≤ length (words r.args.sheet.now)
+room r = omega (arith, length-words r.args.sheet.now)
 
--- the sheet's bytes, and that it has all words of the band, where the reader has answered
-abbrev sheet : goal.In-Paint → List ℕ
-sheet-2 r = r.before.before.before.before.before.args.sheet.now
+room-2 : (r : goal.In-Paint) → r.args.end ≤ length (words r.args.sheet.now)
+room-2 r = omega (arith, length-words r.args.sheet.now)
 
--- the sheet's bytes, and that it has all words of the band, where the reader has answered
-abbrev sheet : goal.In-Priority → List ℕ
-sheet-3 r = r.before.before.before.before.before.args.sheet.now
+room-3 : (r : goal.In-Priority) → r.args.end ≤ length (words r.args.sheet.now)
+room-3 r = omega (arith, length-words r.args.sheet.now)
 
--- the sheet's bytes, and that it has all words of the band, where the reader has answered
-abbrev sheet : goal.In-Ink → List ℕ
-sheet-4 r = r.before.before.before.before.before.args.sheet.now
+room-4 : (r : goal.In-Ink) → r.args.end ≤ length (words r.args.sheet.now)
+room-4 r = omega (arith, length-words r.args.sheet.now)
 
--- the sheet's bytes, and that it has all words of the band, where the reader has answered
-abbrev sheet : goal.In-Clear → List ℕ
-sheet-5 r = r.before.before.before.before.before.args.sheet.now
+room-5 : (r : goal.In-Clear) → r.args.end ≤ length (words r.args.sheet.now)
+room-5 r = omega (arith, length-words r.args.sheet.now)
 
--- the sheet's bytes, and that it has all words of the band, where the reader has answered
-abbrev sheet : goal.In-Tile → List ℕ
-sheet-6 r = r.before.before.before.before.before.args.sheet.now
-
-room : (r : goal.After-stopped) → r.args.end ≤ length (words (sheet r))
-room r = omega (arith, length-words (sheet r))
-
-room-2 : (r : goal.In-Paint) → r.args.end ≤ length (words (sheet r))
-room-2 r = omega (arith, length-words (sheet r))
-
-room-3 : (r : goal.In-Priority) → r.args.end ≤ length (words (sheet r))
-room-3 r = omega (arith, length-words (sheet r))
-
-room-4 : (r : goal.In-Ink) → r.args.end ≤ length (words (sheet r))
-room-4 r = omega (arith, length-words (sheet r))
-
-room-5 : (r : goal.In-Clear) → r.args.end ≤ length (words (sheet r))
-room-5 r = omega (arith, length-words (sheet r))
-
-room-6 : (r : goal.In-Tile) → r.args.end ≤ length (words (sheet r))
-room-6 r = omega (arith, length-words (sheet r))
+room-6 : (r : goal.In-Tile) → r.args.end ≤ length (words r.args.sheet.now)
+room-6 r = omega (arith, length-words r.args.sheet.now)
 
 pub returns-then-at-end : goal.returns-then-at-end
 returns-then-at-end c =
@@ -63,30 +39,30 @@ returns-then-end-sheet c =
 
 pub returns-in_default : goal.returns-in_default
 returns-in_default c =
-    step-refused (sheet c) _ _ _ c.if-at-end.false (room c) _ c.read_command-r.ensures
+    step-refused c.args.sheet.now _ _ _ c.if-at-end.false (room c) _ c.read_command-r.ensures
     _ _ c.in_default.is c.stopped.ensures
 
 pub returns-in-Paint : goal.returns-in-Paint
 returns-in-Paint c =
-    step_paint (sheet-2 c) _ _ _ c.if-at-end.false (room-2 c) _ c.read_command-r.ensures
+    step_paint c.args.sheet.now _ _ _ c.if-at-end.false (room-2 c) _ c.read_command-r.ensures
     _ _ c.in-Whole.is _ c.in-Paint.is
 
 pub returns-in-Priority : goal.returns-in-Priority
 returns-in-Priority c =
-    step_priority (sheet-3 c) _ _ _ c.if-at-end.false (room-3 c) _ c.read_command-r.ensures
+    step_priority c.args.sheet.now _ _ _ c.if-at-end.false (room-3 c) _ c.read_command-r.ensures
     _ _ c.in-Whole.is _ c.in-Priority.is
 
 pub returns-in-Ink : goal.returns-in-Ink
 returns-in-Ink c =
-    step_ink (sheet-4 c) _ _ _ c.if-at-end.false (room-4 c) _ c.read_command-r.ensures
+    step_ink c.args.sheet.now _ _ _ c.if-at-end.false (room-4 c) _ c.read_command-r.ensures
     _ _ c.in-Whole.is c.in-Ink.is
 
 pub returns-in-Clear : goal.returns-in-Clear
 returns-in-Clear c =
-    step_clear (sheet-5 c) _ _ _ c.if-at-end.false (room-5 c) _ c.read_command-r.ensures
+    step_clear c.args.sheet.now _ _ _ c.if-at-end.false (room-5 c) _ c.read_command-r.ensures
     _ _ c.in-Whole.is c.in-Clear.is
 
 pub returns-in-Tile : goal.returns-in-Tile
 returns-in-Tile c =
-    step-tile (sheet-6 c) _ _ _ c.if-at-end.false (room-6 c) _ c.read_command-r.ensures
+    step-tile c.args.sheet.now _ _ _ c.if-at-end.false (room-6 c) _ c.read_command-r.ensures
     _ _ c.in-Whole.is _ _ _ c.in-Tile.is

@@ -14,50 +14,31 @@ use Rattle.film_herald.specs.Herald.{Window}
 use Rattle.film_paint.specs.Rows.{window_of, painted_line}
 use Rattle.film_paint.proofs.Lines.{Between, painted_to, samples_line, samples_on, samples_between, line_none, line_more, line_done}
 use Rattle.film_paint.proofs.ink_samples.Goals as goal
-
--- the end of the samples in the row
-end_is : (c : goal.Then-j-row)
-    → let a = c.args in
-    c.if-last-width.end ≡ min (a.f-min + c.word.result - a.frame.left) a.frame.width
-end_is c = ⊎_elim (λ w. omega arith) (λ w. omega arith) c.if-last-width.branch
-
--- the end of the samples in the row
-end_is-2 : (c : goal.After-slice_known-in-loop-j-1)
-    → let a = c.args in
-    c.if-last-width.end ≡ min (a.f-min + c.word.result - a.frame.left) a.frame.width
-end_is-2 c = ⊎_elim (λ w. omega arith) (λ w. omega arith) c.if-last-width.branch
-
--- the mask has no dot from there on
-mask-between : (c : goal.After-after-j)
-    → let a = c.args in
-    Between c.after-j.result c.if-last-width.end (samples_line (window_of a.frame) a.f-min (words a.array.now) a.i)
-mask-between c = samples_between _ _ _ _ _ _ _ c.word.ensures c.after-j.ensures (end_is c)
-
--- the mask has no dot from there on
-mask-between-2 : (c : goal.Else-j-row)
-    → let a = c.args in
-    Between c.after-j.result c.if-last-width.end (samples_line (window_of a.frame) a.f-min (words a.array.now) a.i)
-mask-between-2 c = samples_between _ _ _ _ _ _ _ c.word.ensures c.after-j.ensures (end_is c)
-
--- the mask has no dot from there on
-mask-between-3 : (c : goal.After-loop-j)
-    → let a = c.args in
-    Between c.after-j.result c.if-last-width.end (samples_line (window_of a.frame) a.f-min (words a.array.now) a.i)
-mask-between-3 c = samples_between _ _ _ _ _ _ _ c.word.ensures c.after-j.ensures (end_is c)
+use Rattle.film_paint.proofs.ink_samples.Goals.{then-last-width, else-last-width}
 
 pub loop-j-init : goal.loop-j-init
 loop-j-init c =
-    (omega arith, line_none _ _ _ _ _ c.if-last-width.end _ (mask-between c) (λ j. (c.type_inv.row j).fits))
+    let e : c.if-last-width.end ≡ min (c.args.f_min + c.word.result - c.args.frame.left) c.args.frame.width =
+      elim c.if-last-width.branch [ then-last-width w ↦ omega arith | else-last-width w ↦ omega arith ] in
+    (omega arith, line_none _ _ _ _ _ c.if-last-width.end _ (samples_between _ _ _ _ _ _ _ c.word.ensures c.after-j.ensures e) (λ j. (c.type_inv.row j).fits))
 
 pub overflow_add-f : goal.overflow_add-f
-overflow_add-f c = omega (arith, end_is c)
+overflow_add-f c =
+    let e : c.if-last-width.end ≡ min (c.args.f_min + c.word.result - c.args.frame.left) c.args.frame.width =
+      elim c.if-last-width.branch [ then-last-width w ↦ omega arith | else-last-width w ↦ omega arith ] in
+    omega (arith, e)
 
 pub overflow_add-j : goal.overflow_add-j
-overflow_add-j c = omega (arith, end_is-2 c)
+overflow_add-j c =
+    let e : c.if-last-width.end ≡ min (c.args.f_min + c.word.result - c.args.frame.left) c.args.frame.width =
+      elim c.if-last-width.branch [ then-last-width w ↦ omega arith | else-last-width w ↦ omega arith ] in
+    omega (arith, e)
 
 pub loop-j-preserved : goal.loop-j-preserved
 loop-j-preserved c =
-    let e = end_is-2 c in (
+    let e : c.if-last-width.end ≡ min (c.args.f_min + c.word.result - c.args.frame.left) c.args.frame.width =
+      elim c.if-last-width.branch [ then-last-width w ↦ omega arith | else-last-width w ↦ omega arith ] in
+    (
       omega arith,
       line_more _ _ _ _ _ _ _ _ _ _ c.loop-j.invariant.1 c.paint_dot.ensures
           (c.sample_dot-m.ensures ∙ samples_on _ _ _ _ _ (omega arith) (omega arith)),
@@ -69,8 +50,10 @@ shape_of-row-else-j-row c = length_is _ _ _ c.loop-j.invariant.1
 pub returns-else-j-row : goal.returns-else-j-row
 unfolding painted_line
 returns-else-j-row c =
+    let e : c.if-last-width.end ≡ min (c.args.f_min + c.word.result - c.args.frame.left) c.args.frame.width =
+      elim c.if-last-width.branch [ then-last-width w ↦ omega arith | else-last-width w ↦ omega arith ] in
     let past : length c.loop-j.row ≤ c.loop-j.j / 8 = c.if-j-row.false in
-    line_done _ _ _ _ _ _ c.if-last-width.end _ _ _ (mask-between-2 c)
+    line_done _ _ _ _ _ _ c.if-last-width.end _ _ _ (samples_between _ _ _ _ _ _ _ c.word.ensures c.after-j.ensures e)
     (omega (arith, length_is _ _ _ c.loop-j.invariant.1)) c.loop-j.invariant.1
 
 pub shape_of-row-after-loop-j : goal.shape_of-row-after-loop-j
@@ -79,4 +62,6 @@ shape_of-row-after-loop-j c = length_is _ _ _ c.loop-j.invariant.1
 pub returns-after-loop-j : goal.returns-after-loop-j
 unfolding painted_line
 returns-after-loop-j c =
-    line_done _ _ _ _ _ _ c.if-last-width.end _ _ _ (mask-between-3 c) (omega arith) c.loop-j.invariant.1
+    let e : c.if-last-width.end ≡ min (c.args.f_min + c.word.result - c.args.frame.left) c.args.frame.width =
+      elim c.if-last-width.branch [ then-last-width w ↦ omega arith | else-last-width w ↦ omega arith ] in
+    line_done _ _ _ _ _ _ c.if-last-width.end _ _ _ (samples_between _ _ _ _ _ _ _ c.word.ensures c.after-j.ensures e) (omega arith) c.loop-j.invariant.1

@@ -1,32 +1,28 @@
 -- `gdi_parse::next_group` meets its contract, for each kind of group. Assumes nothing.
 use mathlib.Core.Path.{◌≡◌, refl, sym, ap, ap₂, ◌∙◌}
 use mathlib.Core.Bool.{Bool}
-use mathlib.Core.List.{List, [], ◌∷◌}
 use Prim.Native.Nat.{ℕ}
 use lib.ListN.{length, drop}
-use types.Run.{OneOf, miss}
-use denote.Enum.Declared.{tag_of}
 use Rattle.gdi_jobs.specs.Groups as groups
 use Rattle.gdi_jobs.specs.Pages.{fault, in_gap}
 use Rattle.gdi_parse.specs.Answers.{group_of}
 use Rattle.gdi_parse.specs.declared.Group as code
 use Rattle.gdi_parse.specs.declared.Group.TheVariants.{Cut, PageHead, WrongPageHead, Block, PageEnd, DocumentEnd, Unknown}
-use Rattle.gdi_parse.specs.contracts.Group.{the_type}
 use Rattle.gdi_parse.proofs.next_group.Goals as goal
 
--- the tags of a page head, right and wrong, of the document end and of an unknown group
-abbrev others : List ℕ
-others = 1 ∷ 2 ∷ 5 ∷ 6 ∷ []
-
 -- which may not come in a page
-other : (may_end : Bool) (n : ℕ) (g : code.Group) → OneOf others (tag_of the_type g) → fault 23 0 ≡ in_gap may_end n (group_of g)
-other may_end n Cut h = absurd (miss others 0 tt h)
-other may_end n (PageHead width height) h = refl
-other may_end n WrongPageHead h = refl
-other may_end n (Block size) h = absurd (miss others 3 tt h)
-other may_end n PageEnd h = absurd (miss others 4 tt h)
-other may_end n DocumentEnd h = refl
-other may_end n Unknown h = refl
+other : (may_end : Bool) (n : ℕ) (g : code.Group)
+    → (g ≡ Cut → ⊥)
+    → ((size : ℕ) → g ≡ Block size → ⊥)
+    → (g ≡ PageEnd → ⊥)
+    → fault 23 0 ≡ in_gap may_end n (group_of g)
+other may_end n Cut cut block end = absurd (cut refl)
+other may_end n (PageHead width height) cut block end = refl
+other may_end n WrongPageHead cut block end = refl
+other may_end n (Block size) cut block end = absurd (block size refl)
+other may_end n PageEnd cut block end = absurd (end refl)
+other may_end n DocumentEnd cut block end = refl
+other may_end n Unknown cut block end = refl
 
 pub returns-in-Cut : goal.returns-in-Cut
 returns-in-Cut c =
@@ -47,4 +43,5 @@ returns-else-may_end c =
     ap₂ (λ (e : Bool) (k : groups.Group). in_gap e (length (drop a.at a.job.now)) k) (sym c.if-may_end.false) (sym (ap group_of c.in-PageEnd.is) ∙ c.group_at.ensures)
 
 pub returns-in_default : goal.returns-in_default
-returns-in_default c = other _ _ c.group_at.result c.in_default.keys4 ∙ ap (in_gap _ _) c.group_at.ensures
+returns-in_default c =
+    other _ _ c.group_at.result c.in_default.not-Cut c.in_default.not-Block c.in_default.not-PageEnd ∙ ap (in_gap _ _) c.group_at.ensures

@@ -14,26 +14,20 @@ returns-then-rec-eq0 c =
     let a = c.args in
     left_ended a.rec c.act.result.rec c.act.result.answer a.bands.now a.dots.now _ (data_none a.rec.bands a.rec.indicator a.rec.have a.rec.body (omega arith)) c.act.ensures.0 c.act.ensures.1
 
-pub UNKNOWN-slice-bounds-band-of-end : goal.UNKNOWN-slice-bounds-band-of-end
-UNKNOWN-slice-bounds-band-of-end c =
-    let a = c.args in
-    let l : length a.rec.body ≡ 648 = length_unmapped ℕ a.rec.body 648 c.well-formed.0.1.1.1.1.1.1.1.1.1.1.1.0.1.0.1 in
-    omega (arith, l)
-
 pub returns-then-rec-ge9 : goal.returns-then-rec-ge9
 returns-then-rec-ge9 c =
     let a = c.args in
-    let l : length a.rec.body ≡ 648 = length_unmapped ℕ a.rec.body 648 c.well-formed.0.1.1.1.1.1.1.1.1.1.1.1.0.1.0.1 in
+    let l : length a.rec.body ≡ 648 = search rules in
     left_refused a.rec c.refuse_with.result.rec c.refuse_with.result.answer a.bands.now a.dots.now _ 34 (data_tenth a.rec.bands a.rec.indicator a.rec.have a.rec.body l c.requires.0 c.if-rec-eq0.false c.if-rec-ge9.true) c.refuse_with.ensures.0 c.refuse_with.ensures.1
 
 pub returns-then-not-b : goal.returns-then-not-b
 returns-then-not-b c =
     let a = c.args in
-    let l : length a.rec.body ≡ 648 = length_unmapped ℕ a.rec.body 648 c.well-formed.0.1.1.1.1.1.1.1.1.1.1.1.0.1.0.1 in
+    let l : length a.rec.body ≡ 648 = search rules in
     left_refused a.rec c.refuse_with-then-not-b.result.rec c.refuse_with-then-not-b.result.answer a.bands.now a.dots.now _ 35 (data_band a.rec.bands a.rec.indicator a.rec.have a.rec.body l c.requires.0 c.if-rec-eq0.false c.if-rec-ge9.false _ (c.band_of-b.ensures ∙ chosen_none c.band_of-b.result.whole c.band_of-b.result.bytes (not-true c.band_of-b.result.whole c.if-not-b.true))) c.refuse_with-then-not-b.ensures.0 c.refuse_with-then-not-b.ensures.1
 
 pub returns : goal.returns
 returns c =
     let a = c.args in
-    let l : length a.rec.body ≡ 648 = length_unmapped ℕ a.rec.body 648 c.well-formed.0.1.1.1.1.1.1.1.1.1.1.1.0.1.0.1 in
+    let l : length a.rec.body ≡ 648 = search rules in
     left_added a.rec c.act-2.result.rec c.act-2.result.answer a.bands.now a.dots.now _ c.hold.result c.place_band.new.bands c.band_of-b.result.bytes (data_band a.rec.bands a.rec.indicator a.rec.have a.rec.body l c.requires.0 c.if-rec-eq0.false c.if-rec-ge9.false _ (c.band_of-b.ensures ∙ chosen_band c.band_of-b.result.whole c.band_of-b.result.bytes (not-false c.band_of-b.result.whole c.if-not-b.false))) c.hold.ensures c.act-2.ensures.0 c.act-2.ensures.1 c.place_band.ensures
