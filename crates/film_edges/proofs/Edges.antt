@@ -11,7 +11,7 @@ use lib.IntN.{ℤ, pos, negsuc, neg_ℤ, nat_abs, ◌+ℤ◌, ◌-ℤ◌, ◌*�
 use lib.Signed.{mag, non_neg, quot_z, lt_z}
 use mir.Syntax.{w64}
 use mir.Val.{SFits, Fits, to_z, of_z}
-use mir.Facts.{to_z-of_z}
+use mir.Facts.{to_z_pos, to_z-of_z}
 use Rattle.film_imaging.specs.Masks.{edge}
 use Rattle.film_imaging.proofs.Trapezoid.{diff_le, diff_lt, edge_nat}
 use Rattle.film_edges.specs.Edges.{ceil_z, edge_at}
@@ -77,6 +77,32 @@ ceil_down (pos v) n h g =
     ap pos (omega (arith, div-le_self v n, div-eq_of_lt l))
 ceil_down (negsuc v) n h g = refl
 
+-- ---- as the code computes them: no step leaves an i64, so each is the number that it stands for
+
+-- the bits of a small number read as that number
+known : (m : ℕ) → m < 2 ^ 32 → to_z w64 m ≡ pos m
+known m h = to_z_pos w64 (omega arith)
+
+module _ (x : ℤ) (n : ℕ) (x_fits : SFits w64 x) (small : mag x < 2 ^ 49) (some : 1 ≤ n) (few : n < 2 ^ 16) where
+  x_is : to_z w64 (of_z w64 x) ≡ x
+  x_is = to_z-of_z {w = w64} x_fits
+
+  less_fits : SFits w64 (pos n -ℤ pos 1)
+  less_fits = rw (diff_le n 1 some) (record { sfits = omega arith })
+
+  pub up_computed : lt_z (pos 0) (to_z w64 (of_z w64 x)) ≡ true
+      → to_z w64 (of_z w64 (quot_z (to_z w64 (of_z w64 (to_z w64 (of_z w64 x) +ℤ to_z w64 (of_z w64 (to_z w64 n -ℤ pos 1))))) (to_z w64 n))) ≡ ceil_z x n
+  up_computed h =
+      let above : lt_z (pos 0) x ≡ true = rw x_is at h in
+      let sum_small : mag (x +ℤ (pos n -ℤ pos 1)) < 2 ^ 62 = mag_up x n small some few above in
+      let sum_fits : SFits w64 (x +ℤ (pos n -ℤ pos 1)) = record { sfits = omega (arith, sum_small) } in
+      rw (known n (omega arith), x_is, to_z-of_z {w = w64} less_fits, to_z-of_z {w = w64} sum_fits)
+      (to_z-of_z {w = w64} (quot_fits (x +ℤ (pos n -ℤ pos 1)) n sum_small) ∙ ceil_up x n above some)
+
+  pub down_computed : lt_z (pos 0) (to_z w64 (of_z w64 x)) ≡ false → to_z w64 (of_z w64 (quot_z (to_z w64 (of_z w64 x)) (to_z w64 n))) ≡ ceil_z x n
+  down_computed h =
+      rw (known n (omega arith), x_is) (to_z-of_z {w = w64} (quot_fits x n (omega arith)) ∙ ceil_down x n (rw x_is at h) some)
+
 -- ---- the place of an edge
 
 -- whole dots may be added before or after rounding
@@ -117,6 +143,54 @@ unfolding edge_at edge
 edge-some a z zero d h = absurd (omega arith)
 edge-some a z (suc m) d h = sym (ceil_add a (suc m) ((pos z -ℤ pos a) *ℤ pos d) h)
 
+-- as the code computes it
+module _ (a z n d : ℕ) (a_fits : a < 2 ^ 32) (z_fits : z < 2 ^ 32) (n_fits : n < 2 ^ 16) (d_fits : d < 2 ^ 16) where
+  -- what is divided
+  abbrev pub scaled : ℤ
+  scaled = (pos z -ℤ pos a) *ℤ pos d
+
+  lean_fits : SFits w64 (pos z -ℤ pos a)
+  lean_fits = record { sfits = omega (arith, mag_diff z a (2 ^ 32) z_fits a_fits) }
+
+  scaled_small : mag scaled ≤ 2 ^ 48
+  scaled_small = mag_times (pos z -ℤ pos a) d (2 ^ 32) (2 ^ 16) (mag_diff z a (2 ^ 32) z_fits a_fits) (omega arith)
+
+  scaled_fits : SFits w64 scaled
+  scaled_fits = record { sfits = omega (arith, scaled_small) }
+
+  moved_small : mag (ceil_z scaled n) < 2 ^ 50
+  moved_small = omega (arith, mag_ceil scaled n, scaled_small)
+
+  moved_fits : SFits w64 (ceil_z scaled n)
+  moved_fits = record { sfits = omega (arith, moved_small) }
+
+  place_fits : SFits w64 (pos a +ℤ ceil_z scaled n)
+  place_fits = record { sfits = omega (arith, mag_add a (ceil_z scaled n), moved_small) }
+
+  divided : to_z w64 (of_z w64 (to_z w64 (of_z w64 (to_z w64 z -ℤ to_z w64 a)) *ℤ to_z w64 d)) ≡ scaled
+  divided = rw (known z z_fits, known a a_fits, known d (omega arith), to_z-of_z {w = w64} lean_fits, to_z-of_z {w = w64} scaled_fits) refl
+
+  pub product_fits : SFits w64 (to_z w64 (of_z w64 (to_z w64 z -ℤ to_z w64 a)) *ℤ to_z w64 d)
+  product_fits = rw (known z z_fits, known a a_fits, known d (omega arith), to_z-of_z {w = w64} lean_fits) scaled_fits
+
+  pub divided_small : mag (to_z w64 (of_z w64 (to_z w64 (of_z w64 (to_z w64 z -ℤ to_z w64 a)) *ℤ to_z w64 d))) < 2 ^ 49
+  divided_small = rw divided (omega (arith, scaled_small))
+
+  -- r is what the division gives
+  module _ (r : ℤ) (e : r ≡ ceil_z (to_z w64 (of_z w64 (to_z w64 (of_z w64 (to_z w64 z -ℤ to_z w64 a)) *ℤ to_z w64 d))) n) where
+    moved_is : r ≡ ceil_z scaled n
+    moved_is = e ∙ ap (λ (x : ℤ). ceil_z x n) divided
+
+    pub sum_fits : SFits w64 (to_z w64 a +ℤ to_z w64 (of_z w64 r))
+    sum_fits = rw (known a a_fits, moved_is, to_z-of_z {w = w64} moved_fits) place_fits
+
+    pub place_computed : 1 ≤ n → to_z w64 (of_z w64 (to_z w64 a +ℤ to_z w64 (of_z w64 r))) ≡ edge_at a z n d
+    place_computed some =
+        rw (known a a_fits, moved_is, to_z-of_z {w = w64} moved_fits) (to_z-of_z {w = w64} place_fits ∙ sym (edge-some a z n d some))
+
+pub still_computed : (a z n d : ℕ) → a < 2 ^ 32 → n ≡ 0 → to_z w64 a ≡ edge_at a z n d
+still_computed a z n d small h = known a small ∙ sym (edge_none a z n d h)
+
 -- it is no negative number up to its last line
 edge_positive : (a z n d : ℕ) → d ≤ n → T (non_neg (edge_at a z n d))
 unfolding edge_at ceil_z
@@ -134,7 +208,7 @@ pub record Place (x y : ℤ) : Type 0 where
 
 pub placed : (x : ℤ) (a z n d : ℕ) → mag x < 2 ^ 63 → x ≡ edge_at a z n d → d ≤ n → Place x (edge_at a z n d)
 placed x a z n d small e l =
-    let i : to_z w64 (of_z w64 x) ≡ x = to_z-of_z (record { sfits = small }) in
+    let i : to_z w64 (of_z w64 x) ≡ x = to_z-of_z {w = w64} (record { sfits = small }) in
     let p : T (non_neg x) = rw e (edge_positive a z n d l) in
     let y : x ≡ pos (nat_abs x) = from_positive x p in
     let m : nat_abs x < 2 ^ 63 = rw y at small in

@@ -10,63 +10,45 @@ use Rattle.gdi_rows.proofs.put_runs.Goals as goal
 pub loop-from-init : goal.loop-from-init
 loop-from-init c = walked-first _ _ (head_held c.put_block_head.ensures)
 
--- the run that is met
-ends : (c : goal.After-run_end-end)
-    → (c.loop-from.from < c.run_end-end.result) × (c.run_end-end.result ≤ c.args.width)
-ends c = run_within _ c.loop-from-test.true c.run_end-end.ensures
-
--- the run that is met
-ends-2 : (c : goal.After-put_command-arg-1)
-    → (c.loop-from.from < c.run_end-end.result) × (c.run_end-end.result ≤ c.args.width)
-ends-2 c = run_within _ c.loop-from-test.true c.run_end-end.ensures
-
--- the run that is met
-ends-3 : (c : goal.After-slice_known-in-loop-from-2-1)
-    → (c.loop-from.from < c.run_end-end.result) × (c.run_end-end.result ≤ c.args.width)
-ends-3 c = run_within _ c.loop-from-test.true c.run_end-end.ensures
-
 pub overflow_sub-dots : goal.overflow_sub-dots
-overflow_sub-dots c = omega (arith, ends c)
-
--- its command
-few : (c : goal.After-command_size-n) → c.command_size-n.result ≤ 2
-few c = rw (c.command_size-n.ensures true) (command_le true _)
+overflow_sub-dots c = omega (arith, run_within _ c.loop-from-test.true c.run_end-end.ensures)
 
 pub block_for-block-requires : goal.block_for-block-requires
-block_for-block-requires c = (omega (arith, c.loop-from.invariant.few), few c)
-
--- and the block that takes it
-takes : (c : goal.After-put_block_head-arg-in-loop-from-1)
-    → Takes c.loop-from.block.head c.loop-from.block.size c.command_size-n.result c.block_for-block.result.head c.block_for-block.result.size
-takes c = block_takes (few c) c.block_for-block.ensures.head_value c.block_for-block.ensures.size_value
-
--- and the block that takes it
-takes-2 : (c : goal.After-struct_known-1)
-    → Takes c.loop-from.block.head c.loop-from.block.size c.command_size-n.result c.block_for-block.result.head c.block_for-block.result.size
-takes-2 c = block_takes (few c) c.block_for-block.ensures.head_value c.block_for-block.ensures.size_value
-
--- and the block that takes it
-takes-3 : (c : goal.After-struct_known-in-loop-from-1)
-    → Takes c.loop-from.block.head c.loop-from.block.size c.command_size-n.result c.block_for-block.result.head c.block_for-block.result.size
-takes-3 c = block_takes (few c) c.block_for-block.ensures.head_value c.block_for-block.ensures.size_value
+block_for-block-requires c = (omega (arith, c.loop-from.invariant.few), rw (c.command_size-n.ensures true) (command_le true _))
 
 pub put_block_head-requires-in-loop-from : goal.put_block_head-requires-in-loop-from
-put_block_head-requires-in-loop-from c = (takes c).most
+put_block_head-requires-in-loop-from c =
+    let few : c.command_size-n.result ≤ 2 = rw (c.command_size-n.ensures true) (command_le true _) in
+    let takes : Takes c.loop-from.block.head c.loop-from.block.size c.command_size-n.result c.block_for-block.result.head c.block_for-block.result.size =
+      block_takes few c.block_for-block.ensures.head_value c.block_for-block.ensures.size_value in
+    takes.most
 
 pub overflow_add-block : goal.overflow_add-block
-overflow_add-block c = omega (arith, (takes-2 c).near, c.loop-from.invariant.few)
+overflow_add-block c =
+    let few : c.command_size-n.result ≤ 2 = rw (c.command_size-n.ensures true) (command_le true _) in
+    let takes : Takes c.loop-from.block.head c.loop-from.block.size c.command_size-n.result c.block_for-block.result.head c.block_for-block.result.size =
+      block_takes few c.block_for-block.ensures.head_value c.block_for-block.ensures.size_value in
+    omega (arith, takes.near, c.loop-from.invariant.few)
 
 pub overflow_add-block-in-loop-from : goal.overflow_add-block-in-loop-from
-overflow_add-block-in-loop-from c = omega (arith, (takes-3 c).near, c.loop-from.invariant.few)
+overflow_add-block-in-loop-from c =
+    let few : c.command_size-n.result ≤ 2 = rw (c.command_size-n.ensures true) (command_le true _) in
+    let takes : Takes c.loop-from.block.head c.loop-from.block.size c.command_size-n.result c.block_for-block.result.head c.block_for-block.result.size =
+      block_takes few c.block_for-block.ensures.head_value c.block_for-block.ensures.size_value in
+    omega (arith, takes.near, c.loop-from.invariant.few)
 
 pub overflow_sub-block : goal.overflow_sub-block
-overflow_sub-block c = omega (arith, (takes-3 c).some)
+overflow_sub-block c =
+    let few : c.command_size-n.result ≤ 2 = rw (c.command_size-n.ensures true) (command_le true _) in
+    let takes : Takes c.loop-from.block.head c.loop-from.block.size c.command_size-n.result c.block_for-block.result.head c.block_for-block.result.size =
+      block_takes few c.block_for-block.ensures.head_value c.block_for-block.ensures.size_value in
+    omega (arith, takes.some)
 
 pub put_command-requires : goal.put_command-requires
-put_command-requires c = omega (arith, ends-2 c)
+put_command-requires c = omega (arith, run_within _ c.loop-from-test.true c.run_end-end.ensures)
 
 pub loop-from-smaller : goal.loop-from-smaller
-loop-from-smaller c = omega (arith, ends-3 c)
+loop-from-smaller c = omega (arith, run_within _ c.loop-from-test.true c.run_end-end.ensures)
 
 pub loop-from-preserved : goal.loop-from-preserved
 loop-from-preserved c =

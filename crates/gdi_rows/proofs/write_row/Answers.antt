@@ -16,27 +16,19 @@ has_room-requires c = (omega arith, omega arith)
 
 pub returns-then-width-lt1 : goal.returns-then-width-lt1
 returns-then-width-lt1 c =
-    let e = refusing _ _ (width_refused _ _ _ (λ w. omega arith)) in record { result_value = e.0; output_after = e.1 }
+    let e = refusing _ _ (width_refused c.args.width c.args.row.now (length c.args.output.now) (λ w. omega arith)) in record { result_value = e.0; output_after = e.1 }
 
 pub returns-then-width-gt-WIDEST : goal.returns-then-width-gt-WIDEST
 returns-then-width-gt-WIDEST c =
-    let e = refusing _ _ (width_refused _ _ _ (λ w. omega arith)) in record { result_value = e.0; output_after = e.1 }
+    let e = refusing _ _ (width_refused c.args.width c.args.row.now (length c.args.output.now) (λ w. omega arith)) in record { result_value = e.0; output_after = e.1 }
 
 pub returns-then-not-fits_width : goal.returns-then-not-fits_width
 returns-then-not-fits_width c =
     let e = refusing _ _ (row_refused _ _ _ (omega arith, omega arith) (sym c.fits_width.ensures ∙ not-true _ c.if-not-fits_width.true-raw)) in record { result_value = e.0; output_after = e.1 }
 
--- the row fits its width
-fits : (c : goal.Then-not-has_room) → fits_width c.args.row.now c.args.width ≡ true
-fits c = sym c.fits_width.ensures ∙ not-false _ c.if-not-fits_width.false-raw
-
--- the row fits its width
-fits-2 : (c : goal.After-slice_known-2-1) → fits_width c.args.row.now c.args.width ≡ true
-fits-2 c = sym c.fits_width.ensures ∙ not-false _ c.if-not-fits_width.false-raw
-
 pub returns-then-not-has_room : goal.returns-then-not-has_room
 returns-then-not-has_room c =
-    let e = refusing _ _ (output_refused _ _ _ (omega arith, omega arith) (fits c) (sym c.has_room.ensures ∙ not-true _ c.if-not-has_room.true-raw)) in record { result_value = e.0; output_after = e.1 }
+    let e = refusing _ _ (output_refused _ _ _ (omega arith, omega arith) (sym c.fits_width.ensures ∙ not-false _ c.if-not-fits_width.false-raw) (sym c.has_room.ensures ∙ not-true _ c.if-not-has_room.true-raw)) in record { result_value = e.0; output_after = e.1 }
 
 pub shape_of-output : goal.shape_of-output
 shape_of-output c = c.put_runs.auto.output
@@ -46,5 +38,5 @@ returns c =
     let a = c.args in
     let bytes = row_bytes a.width a.row.now in
     let room = sym c.has_room.ensures ∙ not-false _ c.if-not-has_room.false-raw in
-    let e = writing _ _ bytes (row_written _ _ _ (omega arith, omega arith) (fits-2 c) room) c.put_runs.ensures.value
+    let e = writing _ _ bytes (row_written _ _ _ (omega arith, omega arith) (sym c.fits_width.ensures ∙ not-false _ c.if-not-fits_width.false-raw) room) c.put_runs.ensures.value
     (c.put_runs.ensures.output_after (leb-true (length bytes) (length a.output.now) room)) in record { result_value = e.0; output_after = e.1 }

@@ -1,0 +1,25 @@
+-- `film_masks::ink_trapezoid` meets its contract. The loop's invariant: the lines from s on are left to paint. The measure is the number of the
+-- trapezoid's lines left. Assumes nothing.
+use mathlib.Core.Logic.{⊎_elim}
+use mathlib.Core.Path.{sym}
+use Prim.Native.Nat.{ℕ, ◌+◌, ◌-◌}
+use native.Mathlib.Omega.{arith}
+use lib.IntN.{ℤ}
+use borrow.Author.Tests.{ltb-true, ltb-false}
+use Rattle.film_words.specs.Words.{words}
+use Rattle.film_commands.specs.Commands.{trapezoid}
+use Rattle.film_commands.specs.Code.{colour_with}
+use Rattle.film_imaging.specs.Masks.{masked}
+use Rattle.film_imaging.proofs.Trapezoid.{trapezoid_off, trapezoid_empty}
+use Rattle.film_edges.specs.Edges.{edge_at}
+use Rattle.film_edges.proofs.Edges.{Place, placed}
+use Rattle.film_masks.proofs.Bands.{band_none}
+use Rattle.film_masks.proofs.Lines.{Lined, lined_first, lined_length, lined_within, lined_next, lined_done, lined_below, trapezoid_dots}
+use Rattle.film_masks.proofs.ink_trapezoid.Given as goal
+
+abbrev pub invariant-loop-s : goal.invariant-loop-s
+invariant-loop-s l =
+    Lined l.frame (colour_with l.colour (words l.tile)) (masked (trapezoid l.s_min l.s_size l.f_min l.f_size l.f_min_last l.f_size_last)) l.s_min l.s_size l.initial.buf l.buf l.s
+
+abbrev pub decreases-loop-s : goal.decreases-loop-s
+decreases-loop-s l = l.mask_end - l.s

@@ -1,0 +1,9 @@
+-- `printbox_answers::of_check` meets its contract. Assumes nothing.
+use borrow.Author.Rules.{rules}
+use Rattle.printbox_answers.proofs.of_check.Goals as goal
+
+pub returns-in-Pages : goal.returns-in-Pages
+returns-in-Pages c = rw c.in-Pages.is
+
+pub returns-in-Refused : goal.returns-in-Refused
+returns-in-Refused c = rw c.in-Refused.is

@@ -1,0 +1,9 @@
+-- `printbox_answers::of_draw` meets its contract. Assumes nothing.
+use borrow.Author.Rules.{rules}
+use Rattle.printbox_answers.proofs.of_draw.Goals as goal
+
+pub returns-in-Done : goal.returns-in-Done
+returns-in-Done c = rw c.in-Done.is
+
+pub returns-in-Refused : goal.returns-in-Refused
+returns-in-Refused c = rw c.in-Refused.is
