@@ -80,14 +80,14 @@ taken_in SumHigh r b bs ds =
 taken_in ClockFirst r b bs ds = (refl, refl)
 taken_in ClockSecond r b bs ds = (refl, refl)
 
-step_in : (r : StripRecord) (b : ℕ) (bs ds : List ℕ) → OutcomeIn (number_step r b bs ds)
+step_in_lem : (r : StripRecord) (b : ℕ) (bs ds : List ℕ) → OutcomeIn (number_step r b bs ds)
 unfolding number_step step_in gives among
-step_in r b bs ds =
+step_in_lem r b bs ds =
     either OutcomeIn (unusable (length bs) (length ds) r.bands r.have) (refl, refl)
     (either AfterIn (unusable (length bs) (length ds) r.bands r.have) (refl, refl) (taken_in (receiver_of r).phase (receiver_of r) b bs ds))
 
 pub strip_receive : (r : StripRecord) (b : ℕ) (bs ds : List ℕ) → gives strip_refusals (of_strip (number_step r b bs ds).answer) ≡ true
-strip_receive r b bs ds = (step_in r b bs ds).0
+strip_receive r b bs ds = (step_in_lem r b bs ds).0
 
 pub strip_place : (r : StripRecord) (b : ℕ) (bs ds : List ℕ) → (number_step r b bs ds).answer.place ≡ 0
-strip_place r b bs ds = (step_in r b bs ds).1
+strip_place r b bs ds = (step_in_lem r b bs ds).1
