@@ -95,15 +95,11 @@ fn receive_all(
     let mut rec = strip::new();
     rec.status = 2;
     let mut printed: u8 = 0;
-    let mut i = 0;
-    while i < stream.len() {
-        let s = step(rec, stream[i], bands, dots);
-        let next = s.rec;
-        let answer = s.answer;
-        print_line(rt, i, answer)?;
-        printed = bands_printed(answer, printed);
-        rec = next;
-        i += 1;
+    for (i, byte) in stream.iter().enumerate() {
+        let s = step(rec, *byte, bands, dots);
+        print_line(rt, i, s.answer)?;
+        printed = bands_printed(s.answer, printed);
+        rec = s.rec;
     }
     print_rows(rt, dots, printed)
 }
