@@ -14,14 +14,12 @@ use std::io;
 fn find(text: &[u8], b: u8) -> usize
     ensures { result ≤ length text.now }
 {
-    let mut i = 0;
-    while i < text.len() {
-        if text[i] == b {
+    for (i, x) in text.iter().enumerate() {
+        if *x == b {
             return i;
         }
-        i += 1;
     }
-    i
+    text.len()
 }
 
 // The value of a hexadecimal digit; 16 for any other character.
@@ -44,14 +42,7 @@ fn digit(c: u8) -> u8 {
 }
 
 fn has_digits_only(field: &[u8]) -> bool {
-    let mut i = 0;
-    while i < field.len() {
-        if digit(field[i]) == 16 {
-            return false;
-        }
-        i += 1;
-    }
-    true
+    field.iter().all(|c| digit(*c) < 16)
 }
 
 // Whether the field is `-`, or pairs of digits, at least one.
@@ -75,11 +66,8 @@ fn byte(high: u8, low: u8) -> u8 {
 
 // Puts the bytes of the pairs of digits at the start of the field, in half of its length; `-` has none.
 fn decode(field: &mut [u8]) {
-    let n = field.len() / 2;
-    let mut i = 0;
-    while i < n {
+    for i in 0..field.len() / 2 {
         field[i] = byte(field[2 * i], field[2 * i + 1]);
-        i += 1;
     }
 }
 
@@ -143,11 +131,8 @@ fn run_line(rt: &impl Print, line: &mut [u8]) -> io::Result<()> {
 }
 
 fn run_lines(rt: &impl Print, text: &mut [u8]) -> io::Result<()> {
-    let mut from = 0;
-    while from < text.len() {
-        let end = from + find(&text[from..], b'\n');
-        run_line(rt, &mut text[from..end])?;
-        from = end + 1;
+    for line in text.split_mut(|b| *b == b'\n') {
+        run_line(rt, line)?;
     }
     Ok(())
 }
