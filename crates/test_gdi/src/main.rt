@@ -113,41 +113,21 @@ const LINEFILL: usize = 5;
 fn find(text: &[u8], b: u8) -> usize
     ensures { result ≤ length text.now }
 {
-    let mut i = 0;
-    while i < text.len() {
-        if text[i] == b {
+    for (i, x) in text.iter().enumerate() {
+        if *x == b {
             return i;
         }
-        i += 1;
     }
-    i
+    text.len()
 }
 
 fn same(a: &[u8], b: &[u8]) -> bool {
-    if a.len() != b.len() {
-        return false;
-    }
-    let mut i = 0;
-    while i < a.len() {
-        if a[i] != b[i] {
-            return false;
-        }
-        i += 1;
-    }
-    true
+    a == b
 }
 
 // How many fields the line has.
 fn fields(line: &[u8]) -> usize {
-    let mut blanks = 0;
-    let mut i = 0;
-    while i < line.len() {
-        if line[i] == b' ' {
-            blanks += 1;
-        }
-        i += 1;
-    }
-    blanks + 1
+    line.iter().filter(|b| **b == b' ').count() + 1
 }
 
 // Where field k of the line starts; the line's length where there is none.
@@ -155,14 +135,12 @@ fn start(line: &[u8], k: usize) -> usize
     ensures { result ≤ length line.now }
 {
     let mut at = 0;
-    let mut i = 0;
-    while i < k {
+    for _ in 0..k {
         at += find(&line[at..], b' ');
         if line.len() <= at {
             return at;
         }
         at += 1;
-        i += 1;
     }
     at
 }
@@ -195,9 +173,8 @@ fn number(text: &[u8], limit: usize) -> Parsed {
         return Parsed::Wrong;
     }
     let mut n = 0;
-    let mut i = 0;
-    while i < text.len() {
-        let d = digit(text[i]);
+    for c in text {
+        let d = digit(*c);
         if 9 < d {
             return Parsed::Wrong;
         }
@@ -208,7 +185,6 @@ fn number(text: &[u8], limit: usize) -> Parsed {
             return Parsed::Wrong;
         }
         n = 10 * n + d;
-        i += 1;
     }
     Parsed::Value(n)
 }
@@ -289,8 +265,7 @@ fn byte(b: u8, text: &[u8]) -> usize {
 // more than `out` has where they do not fit, or digits are wanting.
 fn put(from: usize, to: usize, text: &[u8], out: &mut [u8]) -> usize {
     let mut n = 0;
-    let mut i = from;
-    while i < to {
+    for i in from..to {
         if out.len() <= n {
             return LARGEST;
         }
@@ -303,7 +278,6 @@ fn put(from: usize, to: usize, text: &[u8], out: &mut [u8]) -> usize {
         }
         out[n] = b as u8;
         n += 1;
-        i += 1;
     }
     n
 }
@@ -323,10 +297,8 @@ fn put_times(high: usize, low: usize, b: usize, out: &mut [u8]) -> usize {
     if out.len() < n {
         return LARGEST;
     }
-    let mut i = 0;
-    while i < n {
+    for i in 0..n {
         out[i] = b as u8;
-        i += 1;
     }
     n
 }
@@ -366,8 +338,7 @@ fn decode(text: &[u8], out: &mut [u8]) -> Parsed {
 
 // Where `kind` has this kind; 10 for any other word.
 fn kind(word: &[u8]) -> usize {
-    let mut k = 0;
-    while k < 10 {
+    for k in 0..10 {
         if same(
             field(
                 b"job line row pagehead head pageend documentend linefill papers jobback",
@@ -377,9 +348,8 @@ fn kind(word: &[u8]) -> usize {
         ) {
             return k;
         }
-        k += 1;
     }
-    k
+    10
 }
 
 // The largest number of a field of this letter.
@@ -423,9 +393,7 @@ fn parse(
     if fields(line) != form.len() {
         return false;
     }
-    let mut i = 0;
-    while i < form.len() {
-        let letter = form[i];
+    for (i, &letter) in form.iter().enumerate() {
         let parsed = parse_field(field(line, i), letter, first, second);
         let Parsed::Value(n) = parsed else {
             return false;
@@ -435,7 +403,6 @@ fn parse(
             return false;
         }
         values[at] = n;
-        i += 1;
     }
     true
 }
@@ -671,17 +638,11 @@ fn then_rows(before: Told, width: usize, rows: &[u8], job: &mut [u8]) -> Told {
     let size = row_bytes(width);
     let v = [0, 0, width, 0, 0, 0, 0, 0, 0, 0];
     let mut written = before;
-    let mut from = 0;
-    while from < rows.len() {
-        if size == 0 {
-            return written;
-        }
-        if rows.len() - from < size {
-            return written;
-        }
-        let to = from + size;
-        written = then(written, ROW, &v, &rows[from..to], job);
-        from = to;
+    if size == 0 {
+        return written;
+    }
+    for row in rows.chunks_exact(size) {
+        written = then(written, ROW, &v, row, job);
     }
     written
 }
@@ -717,7 +678,7 @@ fn read_rows(
 ) -> io::Result<()> {
     let mut offset = 107;
     let mut left = 0;
-    for _ in job {
+    for _ in 0..job.len() {
         let told = of_read(read_line(job, offset, left, width, row));
         print_next(rt, line)?;
         if told.word != LINE_READ {
@@ -824,11 +785,8 @@ fn run_line(rt: &impl Print, line: &[u8]) -> io::Result<()> {
 }
 
 fn run_lines(rt: &impl Print, text: &[u8]) -> io::Result<()> {
-    let mut from = 0;
-    while from < text.len() {
-        let end = from + find(&text[from..], b'\n');
-        run_line(rt, &text[from..end])?;
-        from = end + 1;
+    for line in text.split(|b| *b == b'\n') {
+        run_line(rt, line)?;
     }
     Ok(())
 }
