@@ -27,13 +27,11 @@ fn check(rt: &impl Print, job: &[u8]) -> io::Result<()> {
 fn read_lines(rt: &impl Print, bytes: &[u8], width: usize, row: &mut [u8]) -> io::Result<()> {
     let mut offset = 0;
     let mut left = 0;
-    let mut lines = 0;
-    while lines < bytes.len() {
+    for lines in 0..bytes.len() {
         match read_line(bytes, offset, left, width, row) {
             LineRead::Line(next, rest) => {
                 offset = next;
                 left = rest;
-                lines += 1;
             }
             LineRead::PageEnd(next, _) => {
                 return print_pair(rt, b"page end ", next, lines);
