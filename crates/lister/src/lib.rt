@@ -1,7 +1,7 @@
 // Listings: what the check answers for a sheet with an empty load, then each band of each page as it is drawn.
 #![tactic(auto)]
 
-ghost use Rattle.std.specs.Prelude.{◌≡◌};
+ghost use Rattle.std.specs.Prelude.{◌≡◌, IfOk};
 ghost use Rattle.film_check.specs.Promise.{checked_as};
 ghost use Rattle.lister.specs.Listing.{list_answer};
 
@@ -11,97 +11,110 @@ use film_drawing::Drawn;
 use film_herald::{bands_per_page, row_bytes};
 use film_words::word;
 use refusal::Refusal;
+use std::io;
 use text::{band_line, pages_line, refusal_line, row_line};
 
 // The most bytes that are listed.
 const LONGEST: usize = 65536;
 
 // Writes the first n bytes of the line, which has that many.
-fn print_start(line: &[u8], n: usize) {
+fn print_start(rt: &impl Print, line: &[u8], n: usize) -> io::Result<()> {
     if n <= line.len() {
-        io::write_all(1, &line[0..n]);
+        rt.write_all(&line[0..n])?;
     }
+    Ok(())
 }
 
-fn print_refusal(r: Refusal) {
+fn print_refusal(rt: &impl Print, r: Refusal) -> io::Result<()> {
     let mut line = [0u8; 128];
     let n = refusal_line(r.number, r.place, &mut line);
-    print_start(&line, n);
+    print_start(rt, &line, n)
 }
 
 // Prints a row of at most 4,096 bytes; no sheet that passes has longer ones.
-fn print_row(row: &[u8]) {
+fn print_row(rt: &impl Print, row: &[u8]) -> io::Result<()> {
     let mut line = [0u8; 8193];
     let n = row_line(row, &mut line);
-    print_start(&line, n);
+    print_start(rt, &line, n)
 }
 
-fn print_rows(buffer: &[u8], rows: usize, row_bytes: usize) {
+fn print_rows(rt: &impl Print, buffer: &[u8], rows: usize, row_bytes: usize) -> io::Result<()> {
     let mut at = 0;
-    let mut left = rows;
-    while left > 0 {
+    for _ in 0..rows {
         if row_bytes > buffer.len() - at {
-            return;
+            return Ok(());
         }
-        print_row(&buffer[at..at + row_bytes]);
+        print_row(rt, &buffer[at..at + row_bytes])?;
         at += row_bytes;
-        left -= 1;
     }
+    Ok(())
 }
 
 // Draws a band into the buffer and prints it.
-fn print_band<'a>(sheet: &'a [u8], load: &'a [u8], page: usize, band: usize, buffer: &mut [u8]) {
+fn print_band(
+    rt: &impl Print,
+    sheet: &[u8],
+    load: &[u8],
+    page: usize,
+    band: usize,
+    buffer: &mut [u8],
+) -> io::Result<()> {
     match draw(sheet, load, page, band, buffer) {
-        Drawn::Refused(r) => print_refusal(r),
+        Drawn::Refused(r) => print_refusal(rt, r),
         Drawn::Done(rows, dots) => {
             let mut line = [0u8; 128];
             let n = band_line(page, band, rows, dots, &mut line);
-            print_start(&line, n);
-            print_rows(buffer, rows, row_bytes(word(sheet, 6)));
+            print_start(rt, &line, n)?;
+            print_rows(rt, buffer, rows, row_bytes(word(sheet, 6)))
         }
     }
 }
 
-fn print_page<'a>(sheet: &'a [u8], load: &'a [u8], page: usize, bands: usize, buffer: &mut [u8]) {
-    let mut band = 0;
-    while band < bands {
-        print_band(sheet, load, page, band, buffer);
-        band += 1;
+fn print_page(
+    rt: &impl Print,
+    sheet: &[u8],
+    load: &[u8],
+    page: usize,
+    bands: usize,
+    buffer: &mut [u8],
+) -> io::Result<()> {
+    for band in 0..bands {
+        print_band(rt, sheet, load, page, band, buffer)?;
     }
+    Ok(())
 }
 
 // Prints the pages one after another. A band's rows take at most 65,536 bytes.
-fn print_pages<'a>(sheet: &'a [u8], load: &'a [u8], pages: usize) {
+fn print_pages(rt: &impl Print, sheet: &[u8], load: &[u8], pages: usize) -> io::Result<()> {
     let bands = bands_per_page(sheet);
     let mut line = [0u8; 128];
     let n = pages_line(pages, bands, &mut line);
-    print_start(&line, n);
+    print_start(rt, &line, n)?;
     let mut buffer = [0u8; 65536];
-    let mut page = 0;
-    while page < pages {
-        print_page(sheet, load, page, bands, &mut buffer);
-        page += 1;
+    for page in 0..pages {
+        print_page(rt, sheet, load, page, bands, &mut buffer)?;
     }
+    Ok(())
 }
 
 // Prints the listing of a sheet of at most 65,536 bytes with an empty load, or the line of its refusal, and answers what the check answers; a longer
-// input is refused with 1 at 0.
-pub fn list(input: &[u8]) -> Checked
-    ensures { checked_as result ≡ list_answer input.now }
+// input is refused with 1 at 0. Where a line cannot be written, it answers that error.
+pub fn list(rt: &impl Print, input: &[u8]) -> io::Result<Checked>
+    ensures { IfOk result (λ checked. checked_as checked ≡ list_answer input.now) }
 {
     if input.len() > LONGEST {
         let r = Refusal {
             number: 1,
             place: 0,
         };
-        print_refusal(r);
-        return Checked::Refused(r);
+        print_refusal(rt, r)?;
+        return Ok(Checked::Refused(r));
     }
     let load = b"\x00\x00\x00\x00";
     let answer = check(input, load);
     match answer {
-        Checked::Refused(r) => print_refusal(r),
-        Checked::Pages(pages) => print_pages(input, load, pages),
+        Checked::Refused(r) => print_refusal(rt, r)?,
+        Checked::Pages(pages) => print_pages(rt, input, load, pages)?,
     }
-    answer
+    Ok(answer)
 }

@@ -7,19 +7,19 @@
 ghost use Rattle.std.specs.Prelude.{◌≤◌, ◌<◌, length};
 
 use film_check::Checked;
+use reading::read_full;
+use std::io;
 
 // Where the first byte b of the text stands; the text's length where there is none.
 fn find(text: &[u8], b: u8) -> usize
     ensures { result ≤ length text.now }
 {
-    let mut i = 0;
-    while i < text.len() {
-        if text[i] == b {
+    for (i, x) in text.iter().enumerate() {
+        if *x == b {
             return i;
         }
-        i += 1;
     }
-    i
+    text.len()
 }
 
 // The value of a hexadecimal digit; 16 for any other character.
@@ -42,14 +42,7 @@ fn digit(c: u8) -> u8 {
 }
 
 fn has_digits_only(field: &[u8]) -> bool {
-    let mut i = 0;
-    while i < field.len() {
-        if digit(field[i]) == 16 {
-            return false;
-        }
-        i += 1;
-    }
-    true
+    field.iter().all(|c| digit(*c) < 16)
 }
 
 // Whether the field is `-`, or pairs of digits, at least one.
@@ -73,96 +66,82 @@ fn byte(high: u8, low: u8) -> u8 {
 
 // Puts the bytes of the pairs of digits at the start of the field, in half of its length; `-` has none.
 fn decode(field: &mut [u8]) {
-    let n = field.len() / 2;
-    let mut i = 0;
-    while i < n {
+    for i in 0..field.len() / 2 {
         field[i] = byte(field[2 * i], field[2 * i + 1]);
-        i += 1;
     }
 }
 
-fn print_answer(answer: Checked) {
+fn print_answer(rt: &impl Print, answer: Checked) -> io::Result<()> {
     match answer {
-        Checked::Pages(n) => {
-            io::write_all(1, b"pages ");
-            io::print_decimal(1, n as u64);
-        }
-        Checked::Refused(r) => {
-            io::write_all(1, b"refused ");
-            io::print_decimal(1, r.number as u64);
-            io::write_all(1, b" at ");
-            io::print_decimal(1, r.place as u64);
-        }
+        Checked::Pages(n) => println!(rt; "pages {n}"),
+        Checked::Refused(r) => println!(rt; "refused {} at {}", r.number, r.place),
     }
-    io::write_all(1, b"\n");
 }
 
-fn print_bad_line() {
-    io::write_all(1, b"bad line\n");
+fn print_bad_line(rt: &impl Print) -> io::Result<()> {
+    println!(rt; "bad line")
 }
 
-fn print_name(name: &[u8]) {
+fn print_name(rt: &impl Print, name: &[u8]) -> io::Result<()> {
     if name.len() > 0 {
-        io::write_all(1, name);
-        io::write_all(1, b" ");
+        rt.write_all(name)?;
+        print!(rt; " ")?;
     }
+    Ok(())
 }
 
 // The check of a decoded case: the blank between the sheet's field and the load's stands at place n.
-fn check_decoded(fields: &[u8], n: usize)
+fn check_decoded(rt: &impl Print, fields: &[u8], n: usize) -> io::Result<()>
     requires { n < length fields.now }
 {
     let from = n + 1;
     let to = from + (fields.len() - from) / 2;
-    print_answer(film_check::check(&fields[0..n / 2], &fields[from..to]));
+    print_answer(rt, film_check::check(&fields[0..n / 2], &fields[from..to]))
 }
 
 // Runs what stands after the name and its blank.
-fn run_fields(fields: &mut [u8]) {
+fn run_fields(rt: &impl Print, fields: &mut [u8]) -> io::Result<()> {
     let n = find(fields, b' ');
     if n >= fields.len() {
-        print_bad_line();
+        print_bad_line(rt)
     } else if !is_bytes(&fields[0..n]) {
-        print_bad_line();
+        print_bad_line(rt)
     } else if !is_bytes(&fields[n + 1..]) {
-        print_bad_line();
+        print_bad_line(rt)
     } else {
         decode(&mut fields[0..n]);
         decode(&mut fields[n + 1..]);
-        check_decoded(fields, n);
+        check_decoded(rt, fields, n)
     }
 }
 
-fn run_line(line: &mut [u8]) {
+fn run_line(rt: &impl Print, line: &mut [u8]) -> io::Result<()> {
     if line.len() == 0 {
-        return;
+        return Ok(());
     }
     let n = find(line, b' ');
-    print_name(&line[0..n]);
+    print_name(rt, &line[0..n])?;
     if n == 0 {
-        print_bad_line();
+        print_bad_line(rt)
     } else if n < line.len() {
-        run_fields(&mut line[n + 1..]);
+        run_fields(rt, &mut line[n + 1..])
     } else {
-        print_bad_line();
+        print_bad_line(rt)
     }
 }
 
-fn run_lines(text: &mut [u8]) {
-    let mut from = 0;
-    while from < text.len() {
-        let end = from + find(&text[from..], b'\n');
-        run_line(&mut text[from..end]);
-        from = end + 1;
+fn run_lines(rt: &impl Print, text: &mut [u8]) -> io::Result<()> {
+    for line in text.split_mut(|b| *b == b'\n') {
+        run_line(rt, line)?;
     }
+    Ok(())
 }
 
-fn main() {
+fn main(rt: HostRuntime) -> io::Result<()> {
     let mut text = [0u8; 65537];
-    let n = io::read_full(0, &mut text);
+    let n = read_full(&mut rt.stdin(), &mut text)?;
     if n > 65536 {
-        io::write_all(1, b"input too long\n");
-        return;
+        return println!(rt; "input too long");
     }
-    run_lines(&mut text[..n]);
+    run_lines(&rt, &mut text[..n])
 }

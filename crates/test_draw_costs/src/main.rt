@@ -8,6 +8,8 @@ ghost use Rattle.std.specs.Prelude.{◌≤◌};
 use film_draw::draw;
 use film_drawing::Drawn;
 use film_words::word;
+use reading::read_full;
+use std::io;
 
 // The number of four words from place p on.
 fn number(input: &[u8], p: usize) -> usize
@@ -20,27 +22,24 @@ fn number(input: &[u8], p: usize) -> usize
     a * 281474976710656 + b * 4294967296 + c * 65536 + d
 }
 
-fn print_pair(name: &[u8], first: usize, second: usize) {
-    io::write_all(1, name);
-    io::print_decimal(1, first as u64);
-    io::write_all(1, b" ");
-    io::print_decimal(1, second as u64);
-    io::write_all(1, b"\n");
+fn print_pair(rt: &impl Print, name: &[u8], first: usize, second: usize) -> io::Result<()> {
+    rt.write_all(name)?;
+    println!(rt; "{first} {second}")
 }
 
-fn run(input: &[u8], buffer: &mut [u8]) {
+fn run(rt: &impl Print, input: &[u8], buffer: &mut [u8]) -> io::Result<()> {
     let sheet_bytes = number(input, 0);
     let load_bytes = number(input, 4);
     if sheet_bytes > 131072 {
-        return;
+        return Ok(());
     }
     if load_bytes > 131072 {
-        return;
+        return Ok(());
     }
     let from = 32 + sheet_bytes;
     let end = from + load_bytes;
     if end > input.len() {
-        return;
+        return Ok(());
     }
     match draw(
         &input[32..from],
@@ -49,14 +48,14 @@ fn run(input: &[u8], buffer: &mut [u8]) {
         number(input, 12),
         buffer,
     ) {
-        Drawn::Done(rows, dots) => print_pair(b"drawn ", rows, dots),
-        Drawn::Refused(r) => print_pair(b"refused ", r.number as usize, r.place),
+        Drawn::Done(rows, dots) => print_pair(rt, b"drawn ", rows, dots),
+        Drawn::Refused(r) => print_pair(rt, b"refused ", r.number as usize, r.place),
     }
 }
 
-fn main() {
+fn main(rt: HostRuntime) -> io::Result<()> {
     let mut input = [0u8; 131072];
     let mut buffer = [0u8; 65536];
-    let n = io::read_full(0, &mut input);
-    run(&input[..n], &mut buffer);
+    let n = read_full(&mut rt.stdin(), &mut input)?;
+    run(&rt, &input[..n], &mut buffer)
 }

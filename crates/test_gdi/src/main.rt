@@ -28,6 +28,8 @@ use gdi_rows::write_row;
 use gdi_write::{
     Filled, Paper, Written, write_document_end, write_head, write_page_end, write_page_head,
 };
+use reading::read_full;
+use std::io;
 
 // The most bytes of the input.
 const INPUT: usize = 65536;
@@ -111,41 +113,21 @@ const LINEFILL: usize = 5;
 fn find(text: &[u8], b: u8) -> usize
     ensures { result ≤ length text.now }
 {
-    let mut i = 0;
-    while i < text.len() {
-        if text[i] == b {
+    for (i, x) in text.iter().enumerate() {
+        if *x == b {
             return i;
         }
-        i += 1;
     }
-    i
+    text.len()
 }
 
 fn same(a: &[u8], b: &[u8]) -> bool {
-    if a.len() != b.len() {
-        return false;
-    }
-    let mut i = 0;
-    while i < a.len() {
-        if a[i] != b[i] {
-            return false;
-        }
-        i += 1;
-    }
-    true
+    a == b
 }
 
 // How many fields the line has.
 fn fields(line: &[u8]) -> usize {
-    let mut blanks = 0;
-    let mut i = 0;
-    while i < line.len() {
-        if line[i] == b' ' {
-            blanks += 1;
-        }
-        i += 1;
-    }
-    blanks + 1
+    line.iter().filter(|b| **b == b' ').count() + 1
 }
 
 // Where field k of the line starts; the line's length where there is none.
@@ -153,14 +135,12 @@ fn start(line: &[u8], k: usize) -> usize
     ensures { result ≤ length line.now }
 {
     let mut at = 0;
-    let mut i = 0;
-    while i < k {
+    for _ in 0..k {
         at += find(&line[at..], b' ');
         if line.len() <= at {
             return at;
         }
         at += 1;
-        i += 1;
     }
     at
 }
@@ -193,9 +173,8 @@ fn number(text: &[u8], limit: usize) -> Parsed {
         return Parsed::Wrong;
     }
     let mut n = 0;
-    let mut i = 0;
-    while i < text.len() {
-        let d = digit(text[i]);
+    for c in text {
+        let d = digit(*c);
         if 9 < d {
             return Parsed::Wrong;
         }
@@ -206,7 +185,6 @@ fn number(text: &[u8], limit: usize) -> Parsed {
             return Parsed::Wrong;
         }
         n = 10 * n + d;
-        i += 1;
     }
     Parsed::Value(n)
 }
@@ -287,8 +265,7 @@ fn byte(b: u8, text: &[u8]) -> usize {
 // more than `out` has where they do not fit, or digits are wanting.
 fn put(from: usize, to: usize, text: &[u8], out: &mut [u8]) -> usize {
     let mut n = 0;
-    let mut i = from;
-    while i < to {
+    for i in from..to {
         if out.len() <= n {
             return LARGEST;
         }
@@ -301,7 +278,6 @@ fn put(from: usize, to: usize, text: &[u8], out: &mut [u8]) -> usize {
         }
         out[n] = b as u8;
         n += 1;
-        i += 1;
     }
     n
 }
@@ -321,10 +297,8 @@ fn put_times(high: usize, low: usize, b: usize, out: &mut [u8]) -> usize {
     if out.len() < n {
         return LARGEST;
     }
-    let mut i = 0;
-    while i < n {
+    for i in 0..n {
         out[i] = b as u8;
-        i += 1;
     }
     n
 }
@@ -364,8 +338,7 @@ fn decode(text: &[u8], out: &mut [u8]) -> Parsed {
 
 // Where `kind` has this kind; 10 for any other word.
 fn kind(word: &[u8]) -> usize {
-    let mut k = 0;
-    while k < 10 {
+    for k in 0..10 {
         if same(
             field(
                 b"job line row pagehead head pageend documentend linefill papers jobback",
@@ -375,9 +348,8 @@ fn kind(word: &[u8]) -> usize {
         ) {
             return k;
         }
-        k += 1;
     }
-    k
+    10
 }
 
 // The largest number of a field of this letter.
@@ -421,9 +393,7 @@ fn parse(
     if fields(line) != form.len() {
         return false;
     }
-    let mut i = 0;
-    while i < form.len() {
-        let letter = form[i];
+    for (i, &letter) in form.iter().enumerate() {
         let parsed = parse_field(field(line, i), letter, first, second);
         let Parsed::Value(n) = parsed else {
             return false;
@@ -433,64 +403,66 @@ fn parse(
             return false;
         }
         values[at] = n;
-        i += 1;
     }
     true
 }
 
-fn print(text: &[u8]) {
-    io::write_all(1, text);
+fn print(rt: &impl Print, text: &[u8]) -> io::Result<()> {
+    rt.write_all(text)
 }
 
-fn print_number(label: &[u8], n: usize) {
-    print(label);
-    io::print_decimal(1, n as u64);
+fn print_number(rt: &impl Print, label: &[u8], n: usize) -> io::Result<()> {
+    print(rt, label)?;
+    print!(rt; "{n}")
 }
 
-fn print_bytes(bytes: &[u8]) {
+fn print_bytes(rt: &impl Print, bytes: &[u8]) -> io::Result<()> {
     if bytes.len() == 0 {
-        print(b"-");
-        return;
+        return print(rt, b"-");
     }
     let mut line = [0u8; LINE];
     let n = text::row_line(bytes, &mut line);
     if n == 0 {
-        return;
+        return Ok(());
     }
     if n <= LINE {
-        print(&line[0..n - 1]);
+        print(rt, &line[0..n - 1])?;
     }
+    Ok(())
 }
 
-fn print_told(told: Told) {
+fn print_told(rt: &impl Print, told: Told) -> io::Result<()> {
     let word = told.word;
     let n = told.first;
-    print(field(b"refused pages line pageend written linefill", word));
+    print(
+        rt,
+        field(b"refused pages line pageend written linefill", word),
+    )?;
     if word == LINEFILL {
-        print(b" ");
-        print_bytes(&[(n / 256 % 256) as u8, (n % 256) as u8]);
-        return;
+        print(rt, b" ")?;
+        return print_bytes(rt, &[(n / 256 % 256) as u8, (n % 256) as u8]);
     }
-    print_number(b" ", n);
+    print_number(rt, b" ", n)?;
     match word {
-        REFUSED => print_number(b" at ", told.second),
-        LINE_READ | PAGE_ENDED => print_number(b" ", told.second),
-        _ => {}
+        REFUSED => print_number(rt, b" at ", told.second),
+        LINE_READ | PAGE_ENDED => print_number(rt, b" ", told.second),
+        _ => Ok(()),
     }
 }
 
-fn print_name(line: &[u8]) {
+fn print_name(rt: &impl Print, line: &[u8]) -> io::Result<()> {
     let name = field(line, 0);
     if name.len() > 0 {
-        print(name);
-        print(b" ");
+        print(rt, name)?;
+        print(rt, b" ")?;
     }
+    Ok(())
 }
 
 // Ends the line, and begins another of the same case.
-fn print_next(line: &[u8]) {
-    print(b"\n");
-    print_name(line);
+fn print_next(rt: &impl Print, line: &[u8]) -> io::Result<()> {
+    print(rt, b"\n")?;
+    print_name(rt, line)
 }
 
 fn of_check(answer: Checked) -> Told {
@@ -597,23 +569,23 @@ fn answer(k: usize, v: &[usize; VALUES], first: &[u8], second: &mut [u8]) -> Tol
     }
 }
 
-fn print_paper(name: &[u8], paper: Paper) {
-    print(name);
-    print_number(b" ", paper.width as usize);
-    print_number(b" x ", paper.height as usize);
-    print_number(b" index ", paper.index as usize);
-    print(b" ");
-    print_told(of_filled(paper.linefill()));
+fn print_paper(rt: &impl Print, name: &[u8], paper: Paper) -> io::Result<()> {
+    print(rt, name)?;
+    print_number(rt, b" ", paper.width as usize)?;
+    print_number(rt, b" x ", paper.height as usize)?;
+    print_number(rt, b" index ", paper.index as usize)?;
+    print(rt, b" ")?;
+    print_told(rt, of_filled(paper.linefill()))
 }
 
-fn print_papers(line: &[u8]) {
-    print_paper(b"A4", Paper::A4);
-    print_next(line);
-    print_paper(b"A5", Paper::A5);
-    print_next(line);
-    print_paper(b"Letter", Paper::LETTER);
-    print_next(line);
-    print_paper(b"Monarch", Paper::MONARCH);
+fn print_papers(rt: &impl Print, line: &[u8]) -> io::Result<()> {
+    print_paper(rt, b"A4", Paper::A4)?;
+    print_next(rt, line)?;
+    print_paper(rt, b"A5", Paper::A5)?;
+    print_next(rt, line)?;
+    print_paper(rt, b"Letter", Paper::LETTER)?;
+    print_next(rt, line)?;
+    print_paper(rt, b"Monarch", Paper::MONARCH)
 }
 
 // How many bytes a row has.
@@ -666,17 +638,11 @@ fn then_rows(before: Told, width: usize, rows: &[u8], job: &mut [u8]) -> Told {
     let size = row_bytes(width);
     let v = [0, 0, width, 0, 0, 0, 0, 0, 0, 0];
     let mut written = before;
-    let mut from = 0;
-    while from < rows.len() {
-        if size == 0 {
-            return written;
-        }
-        if rows.len() - from < size {
-            return written;
-        }
-        let to = from + size;
-        written = then(written, ROW, &v, &rows[from..to], job);
-        from = to;
+    if size == 0 {
+        return written;
+    }
+    for row in rows.chunks_exact(size) {
+        written = then(written, ROW, &v, row, job);
     }
     written
 }
@@ -703,117 +669,133 @@ fn write_job(width: usize, height: usize, rows: &[u8], job: &mut [u8]) -> Told {
 }
 
 // Reads the lines of the first page and prints them, until something else than a line is read. A line takes a byte at least.
-fn read_rows(line: &[u8], width: usize, job: &[u8], row: &mut [u8]) {
+fn read_rows(
+    rt: &impl Print,
+    line: &[u8],
+    width: usize,
+    job: &[u8],
+    row: &mut [u8],
+) -> io::Result<()> {
     let mut offset = 107;
     let mut left = 0;
-    let mut lines = 0;
-    while lines < job.len() {
+    for _ in 0..job.len() {
         let told = of_read(read_line(job, offset, left, width, row));
-        print_next(line);
+        print_next(rt, line)?;
         if told.word != LINE_READ {
-            print_told(told);
-            return;
+            return print_told(rt, told);
         }
-        print(b"row ");
-        print_bytes(row);
+        print(rt, b"row ")?;
+        print_bytes(rt, row)?;
         offset = told.first;
         left = told.second;
-        lines += 1;
     }
+    Ok(())
 }
 
 // Checks the job and reads its rows.
-fn read_job(line: &[u8], width: usize, job: &[u8]) {
+fn read_job(rt: &impl Print, line: &[u8], width: usize, job: &[u8]) -> io::Result<()> {
     let told = of_check(check_job(job));
-    print_told(told);
+    print_told(rt, told)?;
     if told.word == REFUSED {
-        return;
+        return Ok(());
     }
     let mut row = [0u8; SPACE];
     let size = row_bytes(width);
     if size <= SPACE {
-        read_rows(line, width, job, &mut row[0..size]);
+        read_rows(rt, line, width, job, &mut row[0..size])?;
     }
+    Ok(())
 }
 
-fn write_and_read(line: &[u8], width: usize, height: usize, rows: &[u8]) {
+fn write_and_read(
+    rt: &impl Print,
+    line: &[u8],
+    width: usize,
+    height: usize,
+    rows: &[u8],
+) -> io::Result<()> {
     if !are_rows(rows.len(), height, row_bytes(width)) {
-        print(b"bad line");
-        return;
+        return print(rt, b"bad line");
     }
     let mut job = [0u8; SPACE];
     let told = write_job(width, height, rows, &mut job);
     let n = told.first;
     if told.word != WRITTEN {
-        print_told(told);
+        print_told(rt, told)?;
     } else if n <= SPACE {
-        read_job(line, width, &job[0..n]);
+        read_job(rt, line, width, &job[0..n])?;
     }
+    Ok(())
 }
 
-fn run_kind(k: usize, line: &[u8], v: &[usize; VALUES], first: &[u8], second: &mut [u8]) {
+fn run_kind(
+    rt: &impl Print,
+    k: usize,
+    line: &[u8],
+    v: &[usize; VALUES],
+    first: &[u8],
+    second: &mut [u8],
+) -> io::Result<()> {
     match k {
-        PAPERS => print_papers(line),
-        BACK => write_and_read(line, v[2], v[3], first),
+        PAPERS => print_papers(rt, line),
+        BACK => write_and_read(rt, line, v[2], v[3], first),
         _ => {
-            print_told(answer(k, v, first, second));
+            print_told(rt, answer(k, v, first, second))?;
             if READ <= k {
                 if k <= DOCUMENT_END {
-                    print(b" ");
-                    print_bytes(second);
+                    print(rt, b" ")?;
+                    print_bytes(rt, second)?;
                 }
             }
+            Ok(())
         }
     }
 }
 
-fn run_case(line: &[u8]) {
+fn run_case(rt: &impl Print, line: &[u8]) -> io::Result<()> {
     let mut v = [0usize; VALUES];
     let mut first = [0u8; SPACE];
     let mut second = [0u8; SPACE];
     let k = kind(field(line, 1));
     let form = field(b"..f ..fnnns ..nfs ..lwwbbbbs ..s ..s ..s ..w .. ..wwf", k);
     if !parse(line, form, &mut v, &mut first, &mut second) {
-        print(b"bad line");
-        return;
+        return print(rt, b"bad line");
     }
     let n = v[0];
     let m = v[1];
     if n <= SPACE {
         if m <= SPACE {
-            run_kind(k, line, &v, &first[0..n], &mut second[0..m]);
+            run_kind(rt, k, line, &v, &first[0..n], &mut second[0..m])?;
         }
     }
+    Ok(())
 }
 
-fn run_line(line: &[u8]) {
+fn run_line(rt: &impl Print, line: &[u8]) -> io::Result<()> {
     if line.len() == 0 {
-        return;
+        return Ok(());
     }
-    print_name(line);
+    print_name(rt, line)?;
     if line[0] == b' ' {
-        print(b"bad line");
+        print(rt, b"bad line")?;
     } else {
-        run_case(line);
+        run_case(rt, line)?;
     }
-    print(b"\n");
+    print(rt, b"\n")
 }
 
-fn run_lines(text: &[u8]) {
-    let mut from = 0;
-    while from < text.len() {
-        let end = from + find(&text[from..], b'\n');
-        run_line(&text[from..end]);
-        from = end + 1;
+fn run_lines(rt: &impl Print, text: &[u8]) -> io::Result<()> {
+    for line in text.split(|b| *b == b'\n') {
+        run_line(rt, line)?;
     }
+    Ok(())
 }
 
-fn main() {
+fn main(rt: HostRuntime) -> io::Result<()> {
     let mut text = [0u8; TEXT];
-    let n = io::read_full(0, &mut text);
+    let n = read_full(&mut rt.stdin(), &mut text)?;
     if n > INPUT {
-        print(b"input too long\n");
-        return;
+        return print(&rt, b"input too long\n");
     }
-    run_lines(&text[..n]);
+    run_lines(&rt, &text[..n])
 }

@@ -1,8 +1,12 @@
+// Lists an empty input. The program is that of crates/listing.
 #![tactic(auto)]
 
-// Lists an empty input. The program is that of crates/listing.
-fn main() {
+use reading::read_full;
+use std::io;
+
+fn main(rt: HostRuntime) -> io::Result<()> {
     let mut input = [0u8; 65537];
-    let n = io::read_full(0, &mut input);
-    lister::list(&input[..n]);
+    let n = read_full(&mut rt.stdin(), &mut input)?;
+    lister::list(&rt, &input[..n])?;
+    Ok(())
 }

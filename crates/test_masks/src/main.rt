@@ -6,6 +6,7 @@ use film_commands::{Colour, Mask, Source};
 use film_cursor::{Cursor, Step, advance};
 use film_masks::ink_mask;
 use film_paint::Frame;
+use std::io;
 
 const INK: Colour = Colour::Solid(true);
 
@@ -50,20 +51,27 @@ fn trapezoid(s_size: u16, f_min: u16, f_size: u16, f_min_last: u16, f_size_last:
     }
 }
 
-fn print_rows(buf: &[u8]) {
-    let mut i = 0;
-    while i < buf.len() {
+fn print_rows(rt: &impl Print, buf: &[u8]) -> io::Result<()> {
+    for (i, b) in buf.iter().enumerate() {
         if i % 2 == 0 {
-            io::write_all(1, b" ");
+            print!(rt; " ")?;
         }
-        io::print_hex(1, buf[i] as u64, 2);
-        i += 1;
+        print!(rt; "{b:02x}")?;
     }
-    io::write_all(1, b"\n");
+    print!(rt; "\n")
 }
 
 // One mask in a frame of four rows that begins at line `top` and dot `left`.
-fn case(name: &[u8], buf: &mut [u8], top: u16, left: u16, width: u16, colour: Colour, m: Mask) {
+fn case(
+    rt: &impl Print,
+    name: &[u8],
+    buf: &mut [u8],
+    top: u16,
+    left: u16,
+    width: u16,
+    colour: Colour,
+    m: Mask,
+) -> io::Result<()> {
     // A sheet's part: at place 0 a run group of three lines, in which two runs of line 0 overlap, the run of line 1 has no dots and that of line 2 goes
     // past the film; at place 9 an array of two lines of 17 dots.
     let sheet =
@@ -79,41 +87,59 @@ fn case(name: &[u8], buf: &mut [u8], top: u16, left: u16, width: u16, colour: Co
         width,
     };
     ink_mask(buf, frame, sheet, load, colour, m);
-    io::write_all(1, name);
-    print_rows(buf);
+    rt.write_all(name)?;
+    print_rows(rt, buf)
 }
 
 // On rows of 16 dots that are all 0, and on rows that are all 1.
-fn white(name: &[u8], top: u16, colour: Colour, m: Mask) {
+fn white(rt: &impl Print, name: &[u8], top: u16, colour: Colour, m: Mask) -> io::Result<()> {
     let mut buf = [0u8; 8];
-    case(name, &mut buf, top, 0, 16, colour, m);
+    case(rt, name, &mut buf, top, 0, 16, colour, m)
 }
 
-fn black(name: &[u8], top: u16, colour: Colour, m: Mask) {
+fn black(rt: &impl Print, name: &[u8], top: u16, colour: Colour, m: Mask) -> io::Result<()> {
     let mut buf = [255u8; 8];
-    case(name, &mut buf, top, 0, 16, colour, m);
+    case(rt, name, &mut buf, top, 0, 16, colour, m)
 }
 
-fn rectangles() {
-    white(b"rectangle", 0, INK, rectangle(1, 2, 1, 3));
-    white(b"no-lines", 0, INK, rectangle(1, 0, 1, 3));
-    white(b"no-dots", 0, INK, rectangle(1, 2, 1, 0));
-    white(b"no-wrap", 0, INK, rectangle(0, 1, 8, 65535));
-    white(b"cut-by-band", 30, INK, rectangle(28, 4, 0, 16));
-    white(b"below-band", 0, INK, rectangle(4, 1, 0, 16));
-    black(b"cleared", 0, CLEAR, rectangle(1, 2, 1, 3));
+fn rectangles(rt: &impl Print) -> io::Result<()> {
+    white(rt, b"rectangle", 0, INK, rectangle(1, 2, 1, 3))?;
+    white(rt, b"no-lines", 0, INK, rectangle(1, 0, 1, 3))?;
+    white(rt, b"no-dots", 0, INK, rectangle(1, 2, 1, 0))?;
+    white(rt, b"no-wrap", 0, INK, rectangle(0, 1, 8, 65535))?;
+    white(rt, b"cut-by-band", 30, INK, rectangle(28, 4, 0, 16))?;
+    white(rt, b"below-band", 0, INK, rectangle(4, 1, 0, 16))?;
+    black(rt, b"cleared", 0, CLEAR, rectangle(1, 2, 1, 3))
 }
 
-fn trapezoids() {
-    white(b"leaning-right", 0, INK, trapezoid(3, 0, 2, 3, 2));
-    white(b"leaning-left", 0, INK, trapezoid(3, 3, 1, 0, 1));
-    white(b"from-a-point", 0, INK, trapezoid(3, 0, 0, 0, 4));
-    white(b"no-line", 0, INK, trapezoid(0, 0, 9, 0, 9));
-    white(b"one-line", 0, INK, trapezoid(1, 1, 3, 9, 9));
-    white(b"one-line-no-wrap", 0, INK, trapezoid(1, 8, 65535, 0, 0));
-    black(b"one-line-cleared", 0, CLEAR, trapezoid(1, 1, 3, 9, 9));
-    white(b"largest", 0, INK, trapezoid(65535, 0, 65535, 65535, 65535));
-    white(b"last-lines", 65531, INK, trapezoid(65535, 16, 0, 0, 16));
+fn trapezoids(rt: &impl Print) -> io::Result<()> {
+    white(rt, b"leaning-right", 0, INK, trapezoid(3, 0, 2, 3, 2))?;
+    white(rt, b"leaning-left", 0, INK, trapezoid(3, 3, 1, 0, 1))?;
+    white(rt, b"from-a-point", 0, INK, trapezoid(3, 0, 0, 0, 4))?;
+    white(rt, b"no-line", 0, INK, trapezoid(0, 0, 9, 0, 9))?;
+    white(rt, b"one-line", 0, INK, trapezoid(1, 1, 3, 9, 9))?;
+    white(
+        rt,
+        b"one-line-no-wrap",
+        0,
+        INK,
+        trapezoid(1, 8, 65535, 0, 0),
+    )?;
+    black(rt, b"one-line-cleared", 0, CLEAR, trapezoid(1, 1, 3, 9, 9))?;
+    white(
+        rt,
+        b"largest",
+        0,
+        INK,
+        trapezoid(65535, 0, 65535, 65535, 65535),
+    )?;
+    white(
+        rt,
+        b"last-lines",
+        65531,
+        INK,
+        trapezoid(65535, 16, 0, 0, 16),
+    )
 }
 
 fn runs() -> Mask {
@@ -162,27 +188,39 @@ fn load_samples() -> Mask {
     }
 }
 
-fn groups_and_arrays() {
-    white(b"runs", 0, INK, runs());
-    white(b"runs-above", 3, INK, runs());
-    white(b"load-runs", 0, INK, load_runs());
-    white(b"samples", 0, INK, samples(2, 3, 15));
-    white(b"load-samples", 0, INK, load_samples());
-    white(b"no-such-words", 0, INK, samples(0, 0, 16));
+fn groups_and_arrays(rt: &impl Print) -> io::Result<()> {
+    white(rt, b"runs", 0, INK, runs())?;
+    white(rt, b"runs-above", 3, INK, runs())?;
+    white(rt, b"load-runs", 0, INK, load_runs())?;
+    white(rt, b"samples", 0, INK, samples(2, 3, 15))?;
+    white(rt, b"load-samples", 0, INK, load_samples())?;
+    white(rt, b"no-such-words", 0, INK, samples(0, 0, 16))
 }
 
-fn tiles() {
-    black(b"opaque", 0, OPAQUE, rectangle(0, 4, 0, 16));
-    white(b"transparent", 0, TRANSPARENT, rectangle(0, 4, 0, 16));
-    black(b"transparent-keeps", 0, TRANSPARENT, rectangle(0, 4, 0, 16));
-    black(b"opaque-under-mask", 0, OPAQUE, rectangle(1, 1, 4, 3));
-    black(b"opaque-runs", 0, OPAQUE, runs());
-    black(b"opaque-samples", 0, OPAQUE, samples(2, 4, 15));
-    black(b"opaque-no-tile", 0, NO_TILE, rectangle(0, 2, 0, 8));
+fn tiles(rt: &impl Print) -> io::Result<()> {
+    black(rt, b"opaque", 0, OPAQUE, rectangle(0, 4, 0, 16))?;
+    white(rt, b"transparent", 0, TRANSPARENT, rectangle(0, 4, 0, 16))?;
+    black(
+        rt,
+        b"transparent-keeps",
+        0,
+        TRANSPARENT,
+        rectangle(0, 4, 0, 16),
+    )?;
+    black(rt, b"opaque-under-mask", 0, OPAQUE, rectangle(1, 1, 4, 3))?;
+    black(rt, b"opaque-runs", 0, OPAQUE, runs())?;
+    black(rt, b"opaque-samples", 0, OPAQUE, samples(2, 4, 15))?;
+    black(rt, b"opaque-no-tile", 0, NO_TILE, rectangle(0, 2, 0, 8))
 }
 
 // The mask after a colour command, both read by a cursor that begins with another colour.
-fn second(name: &[u8], buf: &mut [u8], colour: Colour, commands: &[u8]) {
+fn second(
+    rt: &impl Print,
+    name: &[u8],
+    buf: &mut [u8],
+    colour: Colour,
+    commands: &[u8],
+) -> io::Result<()> {
     let first = Cursor {
         at: 0,
         least: 0,
@@ -192,32 +230,36 @@ fn second(name: &[u8], buf: &mut [u8], colour: Colour, commands: &[u8]) {
     if let Step::Other(next) = advance(commands, load, 6, first) {
         if let Step::Paint(m, _) = advance(commands, load, 6, next) {
             let painted = next.colour;
-            case(name, buf, 0, 0, 16, painted, m);
+            case(rt, name, buf, 0, 0, 16, painted, m)?;
         }
     }
+    Ok(())
 }
 
-fn colours() {
+fn colours(rt: &impl Print) -> io::Result<()> {
     let mut white = [0u8; 8];
     let mut black = [255u8; 8];
     second(
+        rt,
         b"after-clear",
         &mut black,
         INK,
         b"\x00\x03\x00\x05\x00\x01\x00\x02\x00\x01\x00\x03",
-    );
+    )?;
     second(
+        rt,
         b"after-ink",
         &mut white,
         OPAQUE,
         b"\x00\x02\x00\x05\x00\x01\x00\x02\x00\x01\x00\x03",
-    );
+    )
 }
 
 // Rows of nine dots from dot 3 of the film on.
-fn windows() {
+fn windows(rt: &impl Print) -> io::Result<()> {
     let mut a = [0u8; 8];
     case(
+        rt,
         b"window-rectangle",
         &mut a,
         0,
@@ -225,13 +267,23 @@ fn windows() {
         9,
         INK,
         rectangle(1, 2, 1, 3),
-    );
+    )?;
     let mut b = [0u8; 8];
-    case(b"window-runs", &mut b, 0, 3, 9, INK, runs());
+    case(rt, b"window-runs", &mut b, 0, 3, 9, INK, runs())?;
     let mut c = [0u8; 8];
-    case(b"window-samples", &mut c, 0, 3, 9, INK, samples(2, 1, 15));
+    case(
+        rt,
+        b"window-samples",
+        &mut c,
+        0,
+        3,
+        9,
+        INK,
+        samples(2, 1, 15),
+    )?;
     let mut d = [255u8; 8];
     case(
+        rt,
         b"window-opaque",
         &mut d,
         0,
@@ -239,9 +291,10 @@ fn windows() {
         9,
         OPAQUE,
         rectangle(0, 4, 0, 16),
-    );
+    )?;
     let mut e = [0u8; 8];
     case(
+        rt,
         b"window-trapezoid",
         &mut e,
         0,
@@ -249,13 +302,14 @@ fn windows() {
         9,
         INK,
         trapezoid(3, 0, 2, 3, 2),
-    );
+    )
 }
 
 // Other widths, and buffers that are not of the band's bytes.
-fn buffers() {
+fn buffers(rt: &impl Print) -> io::Result<()> {
     let mut spare = [0u8; 8];
     case(
+        rt,
         b"spare-bits",
         &mut spare,
         0,
@@ -263,9 +317,10 @@ fn buffers() {
         12,
         INK,
         rectangle(0, 4, 0, 16),
-    );
+    )?;
     let mut wide = [0u8; 16];
     case(
+        rt,
         b"two-words",
         &mut wide,
         0,
@@ -273,9 +328,10 @@ fn buffers() {
         17,
         INK,
         rectangle(1, 1, 15, 9),
-    );
+    )?;
     let mut long = [85u8; 10];
     case(
+        rt,
         b"bytes-beyond",
         &mut long,
         0,
@@ -283,9 +339,10 @@ fn buffers() {
         16,
         INK,
         rectangle(0, 5, 0, 16),
-    );
+    )?;
     let mut short = [85u8; 6];
     case(
+        rt,
         b"too-short",
         &mut short,
         0,
@@ -293,15 +350,15 @@ fn buffers() {
         16,
         INK,
         rectangle(0, 5, 0, 16),
-    );
+    )
 }
 
-fn main() {
-    rectangles();
-    trapezoids();
-    groups_and_arrays();
-    tiles();
-    colours();
-    windows();
-    buffers();
+fn main(rt: HostRuntime) -> io::Result<()> {
+    rectangles(&rt)?;
+    trapezoids(&rt)?;
+    groups_and_arrays(&rt)?;
+    tiles(&rt)?;
+    colours(&rt)?;
+    windows(&rt)?;
+    buffers(&rt)
 }

@@ -3,41 +3,37 @@
 // prints `input too long` alone. What it must print for the file stdin beside src/ is in the file stdout there.
 #![tactic(auto)]
 
+use reading::read_full;
+use std::io;
 use strip::Answer;
 use strip_step::step;
 use text::row_line;
 
-fn print_field(name: &[u8], value: usize) {
-    io::write_all(1, name);
-    io::print_decimal(1, value as u64);
+fn print_field(rt: &impl Print, name: &[u8], value: usize) -> io::Result<()> {
+    rt.write_all(name)?;
+    print!(rt; "{value}")
 }
 
 // The event of an answer, or its reply.
-fn print_answer(answer: Answer) {
+fn print_answer(rt: &impl Print, answer: Answer) -> io::Result<()> {
     match answer {
-        Answer::Reply(byte) => print_field(b" reply ", byte as usize),
-        Answer::Initialized => {
-            io::write_all(1, b" initialize");
-        }
-        Answer::Added(count) => print_field(b" band ", count as usize),
-        Answer::Ended => {
-            io::write_all(1, b" page end");
-        }
-        Answer::Inquired => {
-            io::write_all(1, b" inquiry");
-        }
+        Answer::Reply(byte) => print_field(rt, b" reply ", byte as usize),
+        Answer::Initialized => print!(rt; " initialize"),
+        Answer::Added(count) => print_field(rt, b" band ", count as usize),
+        Answer::Ended => print!(rt; " page end"),
+        Answer::Inquired => print!(rt; " inquiry"),
         Answer::Printed {
             count,
             margins,
             density,
         } => {
-            print_field(b" print ", count as usize);
-            print_field(b" margins ", margins as usize);
-            print_field(b" density ", density as usize);
+            print_field(rt, b" print ", count as usize)?;
+            print_field(rt, b" margins ", margins as usize)?;
+            print_field(rt, b" density ", density as usize)
         }
         Answer::Refused(number, place) => {
-            print_field(b" refused ", number as usize);
-            print_field(b" at ", place);
+            print_field(rt, b" refused ", number as usize)?;
+            print_field(rt, b" at ", place)
         }
     }
 }
@@ -58,62 +54,63 @@ fn bands_printed(answer: Answer, before: u8) -> u8 {
 }
 
 // The answer to the byte at a place, where it is not plain.
-fn print_line(place: usize, answer: Answer) {
+fn print_line(rt: &impl Print, place: usize, answer: Answer) -> io::Result<()> {
     if !is_plain(answer) {
-        print_field(b"", place);
-        print_answer(answer);
-        io::write_all(1, b"\n");
+        print!(rt; "{place}")?;
+        print_answer(rt, answer)?;
+        print!(rt; "\n")?;
     }
+    Ok(())
 }
 
 // The row at a place, where it is there whole.
-fn print_row(dots: &[u8], at: usize) {
+fn print_row(rt: &impl Print, dots: &[u8], at: usize) -> io::Result<()> {
     if dots.len() < 40 {
-        return;
+        return Ok(());
     }
     if dots.len() - 40 < at {
-        return;
+        return Ok(());
     }
     let mut line = [0u8; 81];
     if row_line(&dots[at..at + 40], &mut line) == 81 {
-        io::write_all(1, &line);
+        rt.write_all(&line)?;
     }
+    Ok(())
 }
 
-fn print_rows(dots: &[u8], bands: u8) {
+fn print_rows(rt: &impl Print, dots: &[u8], bands: u8) -> io::Result<()> {
     let rows = 16 * bands as usize;
-    let mut i = 0;
-    while i < rows {
-        print_row(dots, 40 * i);
-        i += 1;
+    for i in 0..rows {
+        print_row(rt, dots, 40 * i)?;
     }
+    Ok(())
 }
 
-fn receive_all(stream: &[u8], bands: &mut [u8], dots: &mut [u8]) {
+fn receive_all(
+    rt: &impl Print,
+    stream: &[u8],
+    bands: &mut [u8],
+    dots: &mut [u8],
+) -> io::Result<()> {
     let mut rec = strip::new();
     rec.status = 2;
     let mut printed: u8 = 0;
-    let mut i = 0;
-    while i < stream.len() {
-        let s = step(rec, stream[i], bands, dots);
-        let next = s.rec;
-        let answer = s.answer;
-        print_line(i, answer);
-        printed = bands_printed(answer, printed);
-        rec = next;
-        i += 1;
+    for (i, byte) in stream.iter().enumerate() {
+        let s = step(rec, *byte, bands, dots);
+        print_line(rt, i, s.answer)?;
+        printed = bands_printed(s.answer, printed);
+        rec = s.rec;
     }
-    print_rows(dots, printed);
+    print_rows(rt, dots, printed)
 }
 
-fn main() {
+fn main(rt: HostRuntime) -> io::Result<()> {
     let mut input = [0u8; 65537];
     let mut bands = [0u8; 5760];
     let mut dots = [0u8; 5760];
-    let n = io::read_full(0, &mut input);
+    let n = read_full(&mut rt.stdin(), &mut input)?;
     if 65536 < n {
-        io::write_all(1, b"input too long\n");
-        return;
+        return println!(rt; "input too long");
     }
-    receive_all(&input[..n], &mut bands, &mut dots);
+    receive_all(&rt, &input[..n], &mut bands, &mut dots)
 }
