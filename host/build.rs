@@ -1,4 +1,4 @@
-//! Links the proved library, which `rt staticlib printbox` puts at
+//! Links the proved library, which `./staticlib` puts at
 //! ../target/staticlib/libprintbox.a.
 
 use std::path::Path;
@@ -8,7 +8,7 @@ fn main() {
     let archive = folder.join("libprintbox.a");
     println!("cargo::rerun-if-changed={}", archive.display());
     if !archive.is_file() {
-        let remedy = "run `rt staticlib printbox` in the project's folder";
+        let remedy = "run ./staticlib in the project's folder";
         println!("cargo::error=target/staticlib/libprintbox.a is missing: {remedy}");
         return;
     }

@@ -1,7 +1,7 @@
 /*
  * printbox.h: the print box's library, for C and C++ programs.
  *
- * Link with libprintbox.a, which `rt staticlib printbox` builds. It draws tolerance films from
+ * Link with libprintbox.a, which `./staticlib` builds. It draws tolerance films from
  * sheets of masks, checks, reads and writes Sagem GDI jobs, and receives what a pocket gauge sends
  * to its strip printer. What each entry answers is proved for every input.
  *
