@@ -82,9 +82,9 @@ fn count_dots(buf: &[u8], rows: usize, row_bytes: usize) -> usize
     ensures { result ≡ ones_of (take (rows * row_bytes) buf.now) }
 {
     let mut dots: usize = 0;
-    let mut i = 0;
+    let mut i: usize = 0;
     let mut at = 0;
-    while i < rows {
+    'each_row: while i < rows {
         dots += ones(&buf[at..at + row_bytes]);
         at += row_bytes;
         i += 1;

@@ -3,7 +3,7 @@
 
 ghost use Rattle.std.specs.Prelude.{◌≡◌, IfOk};
 ghost use Rattle.film_check.specs.Promise.{checked_as};
-ghost use Rattle.lister.specs.Listing.{list_answer};
+ghost use Rattle.lister.specs.Listing.{empty_load, list_answer};
 
 use film_check::{Checked, check};
 use film_draw::draw;
@@ -97,24 +97,36 @@ fn print_pages(rt: &impl Print, sheet: &[u8], load: &[u8], pages: usize) -> io::
     Ok(())
 }
 
-// Prints the listing of a sheet of at most 65,536 bytes with an empty load, or the line of its refusal, and answers what the check answers; a longer
-// input is refused with 1 at 0. Where a line cannot be written, it answers that error.
+// A load file without words: the count 0 alone.
+fn no_load() -> &'static [u8]
+    ensures { result.now ≡ empty_load }
+{
+    let load = b"\x00\x00\x00\x00";
+    load
+}
+
+// What the check answers for a sheet of at most 65,536 bytes with an empty load; a longer input is refused with 1 at 0.
+pub fn answer(input: &[u8]) -> Checked
+    ensures { checked_as result ≡ list_answer input.now }
+{
+    if input.len() > LONGEST {
+        return Checked::Refused(Refusal {
+            number: 1,
+            place: 0,
+        });
+    }
+    check(input, no_load())
+}
+
+// Prints the listing of the input, or the line of its refusal, and gives what is answered for it. Where a line cannot be written, it answers that error, and no
+// other.
 pub fn list(rt: &impl Print, input: &[u8]) -> io::Result<Checked>
     ensures { IfOk result (λ checked. checked_as checked ≡ list_answer input.now) }
 {
-    if input.len() > LONGEST {
-        let r = Refusal {
-            number: 1,
-            place: 0,
-        };
-        print_refusal(rt, r)?;
-        return Ok(Checked::Refused(r));
-    }
-    let load = b"\x00\x00\x00\x00";
-    let answer = check(input, load);
-    match answer {
+    let checked = answer(input);
+    match checked {
         Checked::Refused(r) => print_refusal(rt, r)?,
-        Checked::Pages(pages) => print_pages(rt, input, load, pages)?,
+        Checked::Pages(pages) => print_pages(rt, input, no_load(), pages)?,
     }
-    Ok(answer)
+    Ok(checked)
 }

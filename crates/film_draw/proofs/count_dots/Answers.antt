@@ -6,31 +6,31 @@ use native.Mathlib.Omega.{arith}
 use Rattle.film_draw.proofs.Counting.{Counted, counted_none, counted_row, counted_fits, counted_all}
 use Rattle.film_draw.proofs.count_dots.Goals as goal
 
-pub loop-i-init : goal.loop-i-init
-loop-i-init c = (omega arith, counted_none)
+pub each_row-init : goal.each_row-init
+each_row-init c = (omega arith, counted_none)
 
 pub overflow_add-at : goal.overflow_add-at
-overflow_add-at c = omega (arith, counted_fits c.loop-i.invariant.1 (omega arith) c.requires.1)
+overflow_add-at c = omega (arith, counted_fits c.each_row.invariant.1 (omega arith) c.requires.1)
 
 pub slice_bounds-ones-end : goal.slice_bounds-ones-end
-slice_bounds-ones-end c = omega (arith, counted_fits c.loop-i.invariant.1 (omega arith) c.requires.0)
+slice_bounds-ones-end c = omega (arith, counted_fits c.each_row.invariant.1 (omega arith) c.requires.0)
 
 pub overflow_add-dots : goal.overflow_add-dots
 overflow_add-dots c =
     let counted : (let a = c.args in
-    (c.loop-i.dots + c.ones-dots.result ≤ 8 * 65536) × Counted a.buf.now a.row_bytes (c.loop-i.dots + c.ones-dots.result) (c.loop-i.i + 1) (c.loop-i.at + a.row_bytes)) = counted_row _ _ c.loop-i.invariant.1 (λ i. (c.type_inv.buf i).fits)
-    (counted_fits c.loop-i.invariant.1 (omega arith) c.requires.1) (add-sub_cancel_left c.loop-i.at c.args.row_bytes) c.ones-dots.ensures in
+    (c.each_row.dots + c.ones-dots.result ≤ 8 * 65536) × Counted a.buf.now a.row_bytes (c.each_row.dots + c.ones-dots.result) (c.each_row.i + 1) (c.each_row.at + a.row_bytes)) = counted_row _ _ c.each_row.invariant.1 (λ i. (c.type_inv.buf i).fits)
+    (counted_fits c.each_row.invariant.1 (omega arith) c.requires.1) (add-sub_cancel_left c.each_row.at c.args.row_bytes) c.ones-dots.ensures in
     omega (arith, counted.0)
 
-pub overflow_add-at-in-loop-i : goal.overflow_add-at-in-loop-i
-overflow_add-at-in-loop-i c = omega (arith, counted_fits c.loop-i.invariant.1 (omega arith) c.requires.1)
+pub overflow_add-at-in-each_row : goal.overflow_add-at-in-each_row
+overflow_add-at-in-each_row c = omega (arith, counted_fits c.each_row.invariant.1 (omega arith) c.requires.1)
 
-pub loop-i-preserved : goal.loop-i-preserved
-loop-i-preserved c =
+pub each_row-preserved : goal.each_row-preserved
+each_row-preserved c =
     let counted : (let a = c.args in
-    (c.loop-i.dots + c.ones-dots.result ≤ 8 * 65536) × Counted a.buf.now a.row_bytes (c.loop-i.dots + c.ones-dots.result) (c.loop-i.i + 1) (c.loop-i.at + a.row_bytes)) = counted_row _ _ c.loop-i.invariant.1 (λ i. (c.type_inv.buf i).fits)
-    (counted_fits c.loop-i.invariant.1 (omega arith) c.requires.1) (add-sub_cancel_left c.loop-i.at c.args.row_bytes) c.ones-dots.ensures in
+    (c.each_row.dots + c.ones-dots.result ≤ 8 * 65536) × Counted a.buf.now a.row_bytes (c.each_row.dots + c.ones-dots.result) (c.each_row.i + 1) (c.each_row.at + a.row_bytes)) = counted_row _ _ c.each_row.invariant.1 (λ i. (c.type_inv.buf i).fits)
+    (counted_fits c.each_row.invariant.1 (omega arith) c.requires.1) (add-sub_cancel_left c.each_row.at c.args.row_bytes) c.ones-dots.ensures in
     (omega arith, counted.1)
 
 pub returns : goal.returns
-returns c = counted_all c.loop-i.invariant.1 (omega arith)
+returns c = counted_all c.each_row.invariant.1 (omega arith)

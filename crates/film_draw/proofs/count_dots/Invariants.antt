@@ -4,8 +4,8 @@ use Prim.Native.Nat.{◌-◌, ◌≤◌}
 use Rattle.film_draw.proofs.Counting.{Counted}
 use Rattle.film_draw.proofs.count_dots.Given as goal
 
-abbrev pub invariant-loop-i : goal.invariant-loop-i
-invariant-loop-i l = (l.i ≤ l.rows) × Counted l.buf l.row_bytes l.dots l.i l.at
+abbrev pub invariant-each_row : goal.invariant-each_row
+invariant-each_row l = (l.i ≤ l.rows) × Counted l.buf l.row_bytes l.dots l.i l.at
 
-abbrev pub decreases-loop-i : goal.decreases-loop-i
-decreases-loop-i l = l.rows - l.i
+abbrev pub decreases-each_row : goal.decreases-each_row
+decreases-each_row l = l.rows - l.i

@@ -16,13 +16,13 @@ pub returns-then-rec-ge9 : goal.returns-then-rec-ge9
 returns-then-rec-ge9 c =
     let a = c.args in
     let l : length a.rec.body ≡ 648 = search rules in
-    left_refused a.rec c.refuse_with.result.rec c.refuse_with.result.answer a.bands.now a.dots.now _ 34 (data_tenth a.rec.bands a.rec.indicator a.rec.have a.rec.body l c.requires.0 c.if-rec-eq0.false c.if-rec-ge9.true) c.refuse_with.ensures.0 c.refuse_with.ensures.1
+    left_refused a.rec _ _ a.bands.now a.dots.now _ 34 (data_tenth a.rec.bands a.rec.indicator a.rec.have a.rec.body l c.requires.0 c.if-rec-eq0.false (omega arith)) (cc) (cc)
 
 pub returns-then-not-b : goal.returns-then-not-b
 returns-then-not-b c =
     let a = c.args in
     let l : length a.rec.body ≡ 648 = search rules in
-    left_refused a.rec c.refuse_with-then-not-b.result.rec c.refuse_with-then-not-b.result.answer a.bands.now a.dots.now _ 35 (data_band a.rec.bands a.rec.indicator a.rec.have a.rec.body l c.requires.0 c.if-rec-eq0.false c.if-rec-ge9.false _ (c.band_of-b.ensures ∙ chosen_none c.band_of-b.result.whole c.band_of-b.result.bytes (not-true c.band_of-b.result.whole c.if-not-b.true))) c.refuse_with-then-not-b.ensures.0 c.refuse_with-then-not-b.ensures.1
+    left_refused a.rec _ _ a.bands.now a.dots.now _ 35 (data_band a.rec.bands a.rec.indicator a.rec.have a.rec.body l c.requires.0 c.if-rec-eq0.false (omega arith) _ (c.band_of-b.ensures ∙ chosen_none c.band_of-b.result.whole c.band_of-b.result.bytes (not-true c.band_of-b.result.whole c.if-not-b.true))) (cc) (cc)
 
 pub returns : goal.returns
 returns c =
