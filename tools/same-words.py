@@ -7,6 +7,8 @@ Definitions (specs/) are read as words, without comments, `use` lines, brackets 
 and each word of OLD must stand for one word of NEW throughout: what it prints is each file where that is not so, each word that stands for several, and each
 that is no plain respelling (camel case or dashes to snake case). Of each function's clauses it prints those whose words differ by more than that, with
 `x .entry` read as `x.now` or `x.old` and `x .exit` as `x.new`.
+
+It does not see how brackets group, where a `use` line brings a word from, signatures, constants, or the laws in proofs/.
 """
 
 import os
@@ -45,7 +47,12 @@ def clauses(path):
         head = text[m.end():m.end() + end.start()] if end else text[m.end():]
         other = re.search(r"\bfn \w+", head)
         head = head[:other.start()] if other else head
-        yield m.group(1), re.findall(r"\b(requires|ensures)\*?\s*\w*\s*\{(.*)\}\s*$", head, re.M)
+        starts = [q for q in re.finditer(r"(?m)^\s*(requires|ensures)\*?\s*\w*\s*\{", head)] + [None]
+        found = []
+        for q, following in zip(starts, starts[1:]):
+            its = head[q.end():following.start() if following else None]
+            found.append((q.group(1), " ".join(its.split()).rstrip("}").strip()))
+        yield m.group(1), found
 
 
 def clause_words(text, old):
