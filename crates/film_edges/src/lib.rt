@@ -6,6 +6,7 @@ ghost use Rattle.std.specs.Int.Signed.{mag};
 ghost use Rattle.film_edges.specs.Edges.{ceil_z, edge_at};
 
 // x / n, rounded up. The language's quotient goes toward zero, which is up where x is negative. The bound is above every slope times its lines.
+#[tactic(auto, using(crate::proofs::Edges::up_computed, crate::proofs::Edges::down_computed))]
 fn ceil_signed(x: i64, n: u16) -> i64
     requires { (mag x < 2 ^ 49) × (1 ≤ n) }
     ensures { result ≡ ceil_z x n }

@@ -19,12 +19,13 @@ use Rattle.film_commands.specs.Commands.{rectangle, trapezoid, samples}
 use Rattle.film_herald.specs.Herald.{row_length}
 use Rattle.film_imaging.specs.Masks.{Film, within, sample, masked}
 use Rattle.film_imaging.proofs.Rectangle.{within_is}
+use Rattle.film_imaging.proofs.Trapezoid.{trapezoid_empty}
 use Rattle.film_edges.specs.Edges.{edge_at}
 use Rattle.film_edges.proofs.Stretch.{trapezoid_line}
 use Rattle.film_paint.specs.Rows.{window_of, painted_row}
 use Rattle.film_paint.specs.declared.Frame.{Frame}
 use Rattle.film_masks.specs.Bands.{painted_frame}
-use Rattle.film_masks.proofs.Bands.{row_fits, band_one, Left, left_first, left_next, left_none, left_length}
+use Rattle.film_masks.proofs.Bands.{row_fits, band_none, band_one, Left, left_first, left_next, left_none, left_length}
 
 -- ---- a mask's lines from s on
 
@@ -41,6 +42,14 @@ line_then M s L same t f = go (dec_lt t s) (dec_lt s t)
     go (no n) (no m) =
         let e : t ≡ s = omega arith in
         rw (e, le-leb s s (omega arith), eq-eqb s s refl, lt-leb (s + 1) s (omega arith)) (same f ∙ sym (or-false (L f)))
+
+-- a trapezoid of no lines leaves the buffer
+pub trapezoid_none : (v : Frame) (C : Colour) (s_min s_size f_min f_size f_min_last f_size_last : ℕ) (buf : List ℕ) → s_size ≡ 0 → Bytes buf
+    → buf ≡ painted_frame v C (masked (trapezoid s_min s_size f_min f_size f_min_last f_size_last)) buf
+trapezoid_none v C s_min s_size f_min f_size f_min_last f_size_last buf none bytes =
+    sym
+    (band_none (window_of v) v.top v.rows C (masked (trapezoid s_min s_size f_min f_size f_min_last f_size_last)) buf bytes
+    (λ s f a b. trapezoid_empty s_min s_size f_min f_size f_min_last f_size_last s f none))
 
 -- every dot of the mask is on one of the n lines from m on
 abbrev pub OnLines : Film → (m n : ℕ) → Type 0

@@ -63,6 +63,7 @@ fn ink_rectangle(
 }
 
 // Inks a trapezoid: on each line the stretch between its two edges, rounded up. One of a single line has an edge over no lines, its first.
+#[tactic(auto, using(crate::proofs::Lines::trapezoid_none))]
 fn ink_trapezoid(
     buf: &mut [u8],
     frame: Frame,

@@ -85,6 +85,21 @@ dot_kept row j x bytes h = row_is (length row) (with_dot j x (dot_at row)) row b
     go g (yes e) = rw (eq-eqb g j e, e) h
     go g (no n) = rw (ne_eqb g j n)
 
+-- what the code leaves of a row, for each way of its dot in a tile; c is the tile's dot
+pub opaque_row : (row row' ws : List ℕ) (j s f : ℕ) (transparent c : Bool) → c ≡ tile_dot (tile_in ws) s f → transparent ≡ false
+    → row' ≡ row_of (length row) (with_dot j c (dot_at row))
+    → row' ≡ row_of (length row) (with_dot j (painted (tiled transparent 0 ws) s f true (dot_at row j)) (dot_at row))
+opaque_row row row' ws j s f transparent c d t e = dot_written row row' j _ _ e (opaque_dot ws s f (dot_at row j) transparent c d t)
+
+pub ink_row : (row row' ws : List ℕ) (j s f : ℕ) (transparent c : Bool) → c ≡ tile_dot (tile_in ws) s f → transparent ≡ true → c ≡ true
+    → row' ≡ row_of (length row) (with_dot j true (dot_at row))
+    → row' ≡ row_of (length row) (with_dot j (painted (tiled transparent 0 ws) s f true (dot_at row j)) (dot_at row))
+ink_row row row' ws j s f transparent c d t o e = dot_written row row' j _ _ e (ink_dot ws s f (dot_at row j) transparent c d t o)
+
+pub keep_row : (row ws : List ℕ) (j s f : ℕ) (transparent c : Bool) → Bytes row → c ≡ tile_dot (tile_in ws) s f → transparent ≡ true → c ≡ false
+    → row ≡ row_of (length row) (with_dot j (painted (tiled transparent 0 ws) s f true (dot_at row j)) (dot_at row))
+keep_row row ws j s f transparent c bytes d t o = dot_kept row j _ bytes (keep_dot ws s f (dot_at row j) transparent c d t o)
+
 -- painted with a tile on the mask, it is painted
 pub dot_tiled : (row row' : List ℕ) (j : ℕ) (colour : code.Colour) (ws : List ℕ) (s f : ℕ) (m t : Bool) (from to : ℕ) → m ≡ true → colour ≡ Tile t from to
     → row' ≡ row_of (length row) (with_dot j (painted (tiled t 0 ws) s f true (dot_at row j)) (dot_at row))

@@ -69,6 +69,7 @@ fn tile_dot(tile: &[u8], s: u32, f: usize) -> bool
 }
 
 // Paints dot f of line s, which is dot j of the row, with a tile.
+#[tactic(auto, using(crate::proofs::Painting::ink_row, crate::proofs::Painting::keep_row, crate::proofs::Painting::opaque_row))]
 fn paint_tile(row: &mut [u8], j: usize, s: u32, f: usize, transparent: bool, tile: &[u8])
     ensures { row.new ≡ row_of (length row.old) (with_dot j (painted (tiled transparent 0 (words tile.now)) s f true (dot_at row.old j)) (dot_at row.old)) }
 {

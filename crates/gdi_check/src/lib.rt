@@ -43,6 +43,7 @@ enum Step {
 }
 
 // A step between pages.
+#[tactic(auto, using(crate::proofs::Ends::bytes_after, crate::proofs::Ends::none_after))]
 fn step_between(job: &[u8], at: usize, pages: usize) -> Step
     requires { at ≤ length job.now }
     ensures { step_of result ≡ step (between pages) (drop at job.now) }
@@ -152,6 +153,7 @@ fn walk_pages(job: &[u8]) -> Checked
 }
 
 // The check of a job: the first refusal, or how many pages there are.
+#[tactic(auto, using(crate::proofs::Ends::long_refused))]
 pub fn check_job(job: &[u8]) -> Checked
     ensures { checked_as result ≡ job_answer job.now }
 {

@@ -82,6 +82,7 @@ fn number_at(job: &[u8], at: usize) -> usize
 }
 
 // Whether a page head may hold these numbers.
+#[tactic(auto, using(crate::proofs::Fields::wide_refused), unfolding(gdi_jobs::specs::Groups::fields, gdi_jobs::specs::Groups::admitted))]
 pub fn may_hold(width: usize, height: usize, toner: u8) -> bool
     ensures { result ≡ fields width height toner }
 {

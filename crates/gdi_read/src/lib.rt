@@ -68,6 +68,7 @@ fn line_pass(
 
 // Reads the line at the place (offset, left) of the job: `left` bytes of a block are left from byte `offset` on. `row` has width / 8 bytes, rounded
 // up, and holds the line's dots then; at a page end and after a refusal it is as it was.
+#[tactic(auto, using(crate::proofs::Refusals::wide_answer, crate::proofs::Refusals::wide_row))]
 pub fn read_line(job: &[u8], offset: usize, left: usize, width: usize, row: &mut [u8]) -> LineRead
     ensures result_value { line_read_as result ≡ answer_of (line_at job.now offset left width (length row.old)) }
     ensures row_after { row.new ≡ row_after width (line_at job.now offset left width (length row.old)) row.old }

@@ -151,6 +151,7 @@ fn has_room(row: &[u8], width: usize, room: usize) -> bool
 
 // Puts a row of the given width, as a line, at the beginning of the output, and answers how many bytes the line has; the bytes of the output beyond
 // them stay. After a refusal the output is whole as it was.
+#[tactic(auto, using(crate::proofs::Widths::wide_answer, crate::proofs::Widths::wide_output))]
 pub fn write_row(width: usize, row: &[u8], output: &mut [u8]) -> Written
     ensures result_value { written_as result ≡ answer_of (row_writing width row.now (length output.old)) }
     ensures output_after { output.new ≡ output_after (row_writing width row.now (length output.old)) output.old }

@@ -1,2 +1,3 @@
--- That `film_check` and `film_draw` keep the promises of which demand 3 speaks: Draws.
+-- That `film_check` and `film_draw` keep the promises of which demand 3 speaks: Draws. Widths that have no linefill: Widths.
 pub mod Draws
+pub mod Widths

@@ -131,6 +131,7 @@ pub extern "C" fn gdi_write_row(width: usize, row: &[u8], output: &mut [u8], ans
 }
 
 // The linefill of paper of that width; its height and number do not matter.
+#[tactic(auto, using(crate::proofs::Widths::too_wide))]
 fn linefill(width: usize) -> Filled
     ensures { write.filled_as result ≡ fill_answer width }
 {

@@ -118,6 +118,7 @@ pub fn number_of(low: u8, high: u8) -> u16
 }
 
 // Whether a call is refused with 36.
+#[tactic(auto, using(crate::proofs::Laws::many_bands))]
 pub fn is_unusable(band_bytes: usize, dot_bytes: usize, waiting: u8, have: u16) -> bool
     ensures { result ≡ unusable band_bytes dot_bytes waiting have }
 {

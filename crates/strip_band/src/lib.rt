@@ -155,6 +155,7 @@ fn plain(body: &[u8]) -> Band
 }
 
 // Indicator 0 is a plain body, any other a coded one.
+#[tactic(auto, using(crate::proofs::Laws::is_plain, crate::proofs::Laws::is_coded))]
 pub fn band_of(body: &[u8], indicator: u8) -> Band
     ensures { of_expansion (cond (eqb indicator 0) (whole body.now) (expand body.now)) ≡ cond result.whole (add result.bytes) (refuse 35) }
 {

@@ -1,19 +1,13 @@
 -- `film_masks::ink_trapezoid` meets its contract. The loop's invariant: the lines from s on are left to paint. The measure is the number of the
 -- trapezoid's lines left. Assumes nothing.
-use mathlib.Core.Path.{sym}
 use Prim.Native.Nat.{◌+◌, ◌-◌}
 use native.Mathlib.Omega.{arith}
 use borrow.Author.Tests.{ltb-true, ltb-false}
-use Rattle.film_imaging.proofs.Trapezoid.{trapezoid_off, trapezoid_empty}
+use Rattle.film_imaging.proofs.Trapezoid.{trapezoid_off}
 use Rattle.film_edges.proofs.Edges.{placed}
-use Rattle.film_masks.proofs.Bands.{band_none}
 use Rattle.film_masks.proofs.Lines.{lined_first, lined_length, lined_within, lined_next, lined_done, lined_below, trapezoid_dots}
 use Rattle.film_masks.proofs.ink_trapezoid.Goals as goal
 use Rattle.film_masks.proofs.ink_trapezoid.Goals.{then-first-top, else-first-top}
-
-pub returns-then-s_size-eq0 : goal.returns-then-s_size-eq0
-returns-then-s_size-eq0 c =
-    sym (band_none _ _ _ _ _ _ (λ i. (c.type_inv.buf i).fits) (λ s f a b. trapezoid_empty _ _ _ _ _ _ s f (omega arith)))
 
 pub loop-s-init : goal.loop-s-init
 loop-s-init c =

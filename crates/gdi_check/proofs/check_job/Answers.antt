@@ -3,10 +3,10 @@ use mathlib.Core.Path.{◌≡◌, refl, sym, ap, ◌∙◌}
 use mathlib.Core.List.{List}
 use Prim.Native.Nat.{ℕ, ◌≤◌}
 use native.Mathlib.Omega.{arith}
-use borrow.Author.Tests.{lt-ltb, le-ltb}
+use borrow.Author.Tests.{le-ltb}
 use lib.ListN.{length, drop}
 use Rattle.gdi_jobs.specs.Groups.{codes, head_bytes, group_cases}
-use Rattle.gdi_jobs.specs.Jobs.{longest, between, walk, walk_head, job_answer, too_long}
+use Rattle.gdi_jobs.specs.Jobs.{longest, between, walk, walk_head, job_answer}
 use Rattle.gdi_jobs.proofs.Jobs.{head_done, head_ends, head_agrees, head_differs}
 use Rattle.gdi_check.proofs.check_job.Goals as goal
 
@@ -15,11 +15,8 @@ not-too-long : (job : List ℕ) → length job ≤ longest → job_answer job �
 unfolding job_answer
 not-too-long job h = rw (le-ltb longest (length job) h) refl
 
-pub returns-then-job-gt-LONGEST : goal.returns-then-job-gt-LONGEST
-returns-then-job-gt-LONGEST c = sym (too_long _ (lt-ltb _ _ c.if-job-gt-LONGEST.true))
-
 pub loop-i-init : goal.loop-i-init
-loop-i-init c = (c.if-job-gt-LONGEST.false, omega arith, omega arith, not-too-long _ c.if-job-gt-LONGEST.false)
+loop-i-init c = let h : length c.args.job.now ≤ longest = omega arith in (h, omega arith, omega arith, not-too-long _ h)
 
 pub returns-then-job-i : goal.returns-then-job-i
 returns-then-job-i c =

@@ -6,7 +6,7 @@ use Rattle.gdi_jobs.specs.Jobs.{stop, step_between}
 use Rattle.gdi_parse.specs.Answers.{group_of}
 use Rattle.gdi_parse.specs.declared.Group as code
 use Rattle.gdi_parse.specs.declared.Group.TheVariants.{Cut, PageHead, WrongPageHead, Block, PageEnd, DocumentEnd, Unknown}
-use Rattle.gdi_check.proofs.Steps.{between_is, end_before, end_last}
+use Rattle.gdi_check.proofs.Steps.{between_is}
 use Rattle.gdi_check.proofs.step_between.Goals as goal
 
 -- which may not come between pages
@@ -38,18 +38,6 @@ pub returns-in-WrongPageHead : goal.returns-in-WrongPageHead
 returns-in-WrongPageHead c =
     let a = c.args in
     between_is _ _ _ _ (sym (length-drop a.at a.job.now)) (sym (ap group_of c.in-WrongPageHead.is) ∙ c.group_at.ensures)
-
-pub returns-then-n-gt6 : goal.returns-then-n-gt6
-returns-then-n-gt6 c =
-    let a = c.args in
-    end_before _ _ c.if-n-gt6.true
-    ∙ between_is _ _ _ _ (sym (length-drop a.at a.job.now)) (sym (ap group_of c.in-DocumentEnd.is) ∙ c.group_at.ensures)
-
-pub returns-else-n-gt6 : goal.returns-else-n-gt6
-returns-else-n-gt6 c =
-    let a = c.args in
-    end_last _ _ c.if-n-gt6.false
-    ∙ between_is _ _ _ _ (sym (length-drop a.at a.job.now)) (sym (ap group_of c.in-DocumentEnd.is) ∙ c.group_at.ensures)
 
 pub returns-in_default : goal.returns-in_default
 returns-in_default c =

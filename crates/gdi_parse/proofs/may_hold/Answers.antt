@@ -8,9 +8,6 @@ use Rattle.gdi_parse.proofs.may_hold.Goals as goal
 pub returns-then-width-lt1 : goal.returns-then-width-lt1
 returns-then-width-lt1 c = sym (is_false _ (fields_is _ _ _) (λ f. omega (arith, f.some_width)))
 
-pub returns-then-width-gt-WIDEST : goal.returns-then-width-gt-WIDEST
-returns-then-width-gt-WIDEST c = sym (is_false _ (fields_is _ _ _) (λ f. omega (arith, f.most_width)))
-
 pub returns-then-height-lt1 : goal.returns-then-height-lt1
 returns-then-height-lt1 c = sym (is_false _ (fields_is _ _ _) (λ f. omega (arith, f.some_height)))
 

@@ -8,10 +8,6 @@ pub returns-then-width-lt1 : goal.returns-then-width-lt1
 returns-then-width-lt1 c =
     let e = refused_so _ _ _ _ _ (width_refused c.args.job.now c.args.offset c.args.left c.args.width (length c.args.row.now) (λ a b. omega arith)) in record { result_value = e.0; row_after = e.1 }
 
-pub returns-then-width-gt-WIDEST : goal.returns-then-width-gt-WIDEST
-returns-then-width-gt-WIDEST c =
-    let e = refused_so _ _ _ _ _ (width_refused c.args.job.now c.args.offset c.args.left c.args.width (length c.args.row.now) (λ a b. omega arith)) in record { result_value = e.0; row_after = e.1 }
-
 pub returns-then-row-width : goal.returns-then-row-width
 returns-then-row-width c =
     let e = refused_so _ _ _ _ _ (row_refused _ _ _ _ _ (omega arith) c.if-row-width.true) in record { result_value = e.0; row_after = e.1 }

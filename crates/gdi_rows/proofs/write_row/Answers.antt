@@ -16,10 +16,6 @@ pub returns-then-width-lt1 : goal.returns-then-width-lt1
 returns-then-width-lt1 c =
     let e = refusing _ _ (width_refused c.args.width c.args.row.now (length c.args.output.now) (λ w. omega arith)) in record { result_value = e.0; output_after = e.1 }
 
-pub returns-then-width-gt-WIDEST : goal.returns-then-width-gt-WIDEST
-returns-then-width-gt-WIDEST c =
-    let e = refusing _ _ (width_refused c.args.width c.args.row.now (length c.args.output.now) (λ w. omega arith)) in record { result_value = e.0; output_after = e.1 }
-
 pub returns-then-not-fits_width : goal.returns-then-not-fits_width
 returns-then-not-fits_width c =
     let e = refusing _ _ (row_refused _ _ _ (omega arith, omega arith) (sym c.fits_width.ensures ∙ not-true _ c.if-not-fits_width.true-raw)) in record { result_value = e.0; output_after = e.1 }
