@@ -1,12 +1,16 @@
 -- The answers that the code's answers stand for.
-use Rattle.refusal.specs.Answers.{Answer, refused, Verdict, fine}
-use Rattle.refusal.specs.declared.Refusal as code-refusal
-use Rattle.refusal.specs.declared.Tested as code
-use Rattle.refusal.specs.declared.Tested.TheVariants.{Fine, Refused}
+use Rattle.std.specs.Prelude.{Result, Ok, Err}
+use Rattle.refusal.specs.Answers.{Answer, given, refused, Verdict}
+use Rattle.refusal.specs.Faults.{number_of}
+use Rattle.refusal.specs.declared.Refusal.{Refusal}
 
-abbrev pub refused_as : {A : Type 0} → code-refusal.Refusal → Answer A
-refused_as r = refused r.number r.place
+abbrev pub refused_as : {A : Type 0} → Refusal → Answer A
+refused_as r = refused (number_of r.fault) r.place
 
-abbrev pub tested_as : code.Tested → Verdict
-tested_as Fine = fine
-tested_as (Refused r) = refused_as r
+-- what was asked for, by what it stands for; or a refusal
+abbrev pub answer_as : {A B : Type 0} → (A → B) → Result A Refusal → Answer B
+answer_as f (Ok a) = given (f a)
+answer_as f (Err r) = refused_as r
+
+abbrev pub tested_as : Result Unit Refusal → Verdict
+tested_as r = answer_as (λ u. u) r
