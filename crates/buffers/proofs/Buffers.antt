@@ -8,6 +8,7 @@ use native.Mathlib.Decide.{dec_le}
 use borrow.Author.Tests.{le-leb, lt-leb}
 use lib.ListN.{length, get_or, take, drop, set, length-append, length-drop, length-set}
 use lib.Seq.{take-suc, drop-cons, set_at, append_snoc, take-length, length-take-le}
+use Rattle.std.proofs.Common.{Some, None}
 use Rattle.buffers.specs.Buffers.{written, count}
 
 -- the first i of the bytes are put into the buffer, which has room for all of them
@@ -51,16 +52,16 @@ begun_written {bytes} {out₀} {out} {i} b e =
     b.made ∙ ap (λ (j : ℕ). take j bytes ++ drop j out₀) e ∙ ap (λ (t : List ℕ). t ++ drop (length bytes) out₀) (take-length bytes)
     ∙ sym (written-room bytes out₀ b.room)
 
-pub counted : (bytes out : List ℕ) {i : ℕ} → length bytes ≤ length out → i ≡ length bytes → i ≡ count bytes out
+pub counted : (bytes out : List ℕ) {i : ℕ} → length bytes ≤ length out → i ≡ length bytes → Some i ≡ count bytes out
 unfolding count
-counted bytes out h e = rw (le-leb _ _ h) e
+counted bytes out h e = rw (le-leb _ _ h) (ap Some e)
 
 -- a buffer that is too short
 pub too_short : (bytes out : List ℕ) → length out < length bytes → out ≡ written bytes out
 unfolding written
 too_short bytes out h = rw (lt-leb _ _ h) refl
 
-pub too_short_count : (bytes out : List ℕ) → length out < length bytes → 0 ≡ count bytes out
+pub too_short_count : (bytes out : List ℕ) → length out < length bytes → None ≡ count bytes out
 unfolding count
 too_short_count bytes out h = rw (lt-leb _ _ h) refl
 

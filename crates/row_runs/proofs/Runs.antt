@@ -7,7 +7,12 @@ use Prim.Native.Nat.{ℕ, zero, suc, ◌+◌, ◌-◌, ◌*◌, ◌/◌, ◌%◌
 use native.Mathlib.Nat.{eq-or-lt_of_le}
 use native.Mathlib.Omega.{arith}
 use native.Mathlib.Decide.{dec_lt}
-use lib.ListN.{get_or}
+use lib.Dec.{eqb}
+use lib.ListN.{get_or, take, drop, length-take}
+use lib.Seq.{get_or-take, get_or-drop}
+use borrow.Author.Tests.{eqb-true}
+use Rattle.std.specs.List.{prefix_len}
+use Rattle.std.proofs.lemmas.List.Sums.{prefix_len_passes, prefix_len-le-length}
 use Rattle.row.specs.Dots.{dot_at, byte_of}
 use Rattle.row_runs.specs.Runs.{first_not, run_end}
 use Rattle.truth.proofs.Tests.{Is, beq_is, is_false, from_next}
@@ -114,6 +119,25 @@ first_byte v row from i b a e here before =
     ∙ first_pass v (dot_at row) end (8 * i) 8 end (omega arith)
     (λ g p q. let k : g / 8 ≡ i = omega arith in rw (k, here, e) (dot_byte_of (λ _. v) (g % 8) (omega arith)))
     ∙ first_none v (dot_at row) end (8 * i + 8) end (omega arith)
+
+-- no more bytes of a part of the row are at its front than it has
+pub front_le : (row : List ℕ) (from end b : ℕ) → prefix_len (λ x. eqb x b) (take (end - from) (drop from row)) ≤ end - from
+front_le row from end b =
+    let part = take (end - from) (drop from row) in
+    omega (arith, prefix_len-le-length (λ x. eqb x b) part, length-take (end - from) (drop from row))
+
+-- those of them that are b are passed
+pub first_bytes : (v : Bool) (row : List ℕ) (from end b n : ℕ) → b ≡ byte_of (λ _. v) → n ≤ prefix_len (λ x. eqb x b) (take (end - from) (drop from row))
+    → first_not v (dot_at row) (8 * (from + n)) (8 * from) (8 * (from + n) - 8 * from) ≡ 8 * (from + n)
+first_bytes v row from end b zero e l = first_none v (dot_at row) (8 * (from + 0)) (8 * from) (8 * (from + 0)) (omega arith)
+first_bytes v row from end b (suc n) e l =
+    let part = take (end - from) (drop from row) in
+    let passes : get_or part n 0 ≡ b = eqb-true _ _ (prefix_len_passes (λ x. eqb x b) part n 0 l) in
+    let within : n < end - from = omega (arith, l, front_le row from end b) in
+    let here : get_or row (from + n) 0 ≡ b = sym (get_or-take (end - from) (drop from row) n 0 within ∙ get_or-drop from row n 0) ∙ passes in
+    let s : from + n + 1 ≡ from + suc n = omega arith in
+    ap (λ (m : ℕ). first_not v (dot_at row) (8 * m) (8 * from) (8 * m - 8 * from)) (sym s)
+    ∙ first_byte v row from (from + n) b (omega arith) e here (first_bytes v row from end b n e (omega arith)) ∙ ap (λ (m : ℕ). 8 * m) s
 
 -- ---- the end of a run
 

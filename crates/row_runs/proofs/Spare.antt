@@ -2,14 +2,18 @@
 use mathlib.Core.Path.{◌≡◌, refl, sym, ap, ap₂, ◌∙◌}
 use mathlib.Core.Bool.{Bool, true, false, not, ◌&&◌, true≢false, false≢true, and_assoc}
 use mathlib.Core.List.{List}
-use Prim.Native.Nat.{ℕ, zero, suc, ◌+◌, ◌-◌, ◌*◌, ◌/◌, ◌%◌, ◌^◌, ◌<◌, ◌≤◌}
+use Prim.Native.Nat.{ℕ, zero, suc, ◌+◌, ◌-◌, ◌*◌, ◌/◌, ◌%◌, ◌^◌, ◌<◌, ◌≤◌, min}
 use native.Mathlib.Nat.{add-zero, zero-add, suc-add}
 use native.Mathlib.Omega.{arith}
 use native.Mathlib.Decide.{dec_lt}
-use borrow.Author.Tests.{eq-eqb, ne_eqb}
 use lib.Bits.{bit_and}
 use lib.Dec.{eqb}
-use lib.ListN.{length, get_or}
+use lib.ListN.{length, get_or, take, drop, length-take, length-drop}
+use lib.Seq.{drop-cons, get_or-drop}
+use Rattle.std.proofs.lemmas.List.{drop_all, drop-drop}
+use Rattle.std.proofs.lemmas.Slice.{between_to_end}
+use Rattle.std.specs.List.{list_all}
+use native.Mathlib.Numerals.{add-one}
 use Rattle.row.specs.Dots.{dot_in, dot_at, row_of}
 use Rattle.row_runs.specs.Spare.{clear_from, spare_clear}
 use Rattle.truth.proofs.Tests.{Is, same_at, from_next}
@@ -78,22 +82,58 @@ rest_byte row i k bytes h l =
     ∙ byte_clear (get_or row i 0) k (bytes i) l)
     n
 
--- a byte with a one bit is the answer
-pub rest_set : (row : List ℕ) (i k : ℕ) → Bytes row → i < length row → k < 8 → (bit_and (get_or row i 0) (255 / 2 ^ k) ≡ 0 → ⊥)
-    → clear_rest row i k ≡ false
-rest_set row i k bytes h l n =
-    rest_byte row i k bytes h l ∙ ap (λ (t : Bool). t && clear_rest row (i + 1) 0) (ne_eqb (bit_and (get_or row i 0) (255 / 2 ^ k)) 0 n)
-
--- a byte without one is passed
-pub rest_on : (row : List ℕ) (i k : ℕ) → Bytes row → i < length row → k < 8 → bit_and (get_or row i 0) (255 / 2 ^ k) ≡ 0
-    → clear_rest row i k ≡ clear_rest row (i + 1) 0
-rest_on row i k bytes h l e =
-    rest_byte row i k bytes h l ∙ ap (λ (t : Bool). t && clear_rest row (i + 1) 0) (eq-eqb (bit_and (get_or row i 0) (255 / 2 ^ k)) 0 e)
-
 -- no byte is left
 pub rest_none : (row : List ℕ) (i k : ℕ) → length row ≤ i → clear_rest row i k ≡ true
 unfolding clear_rest clear_from
 rest_none row i k h = let n : 8 * length row - (8 * i + k) ≡ 0 = omega arith in rw n refl
+
+-- of a byte that is not masked every bit counts
+low_byte : (b : ℕ) → b < 256 → eqb (bit_and b 255) 0 ≡ eqb b 0
+low_byte b h = same_at 256 1 (λ b k. eqb (bit_and b (255 / 2 ^ k)) 0) (λ b k. eqb b 0) tt b 0 h (omega arith)
+
+-- past the last byte
+zero_past : (row : List ℕ) (i : ℕ) → length row ≤ i → list_all (λ b. eqb b 0) (drop i row) ≡ clear_rest row i 0
+zero_past row i h = ap (list_all (λ b. eqb b 0)) (drop_all i row h) ∙ sym (rest_none row i 0 h)
+
+-- the bytes from i on, of which there are at most n
+rest_zero : (row : List ℕ) (i n : ℕ) → Bytes row → length row ≤ i + n → list_all (λ b. eqb b 0) (drop i row) ≡ clear_rest row i 0
+rest_zero row i zero bytes h = zero_past row i (omega arith)
+rest_zero row i (suc n) bytes h = go (dec_lt i (length row)) (rest_zero row (i + 1) n bytes (omega arith))
+  where
+    go : Dec (i < length row) → list_all (λ b. eqb b 0) (drop (i + 1) row) ≡ clear_rest row (i + 1) 0
+        → list_all (λ b. eqb b 0) (drop i row) ≡ clear_rest row i 0
+    go (no l) later = zero_past row i (omega arith)
+    go (yes l) later =
+        ap (list_all (λ b. eqb b 0)) (drop-cons row i 0 l)
+        ∙ ap₂ ◌&&◌ (sym (low_byte (get_or row i 0) (bytes i))) (ap (λ (m : ℕ). list_all (λ b. eqb b 0) (drop m row)) (sym (add-one i)) ∙ later)
+        ∙ sym (rest_byte row i 0 bytes l (omega arith))
+
+-- what `&&` gives, by its first test
+pub and_on : {t x r : Bool} → t ≡ true → (t && x) ≡ r → x ≡ r
+and_on {t} {x} e h = ap (λ s. s && x) (sym e) ∙ h
+
+pub and_off : {t r : Bool} (x : Bool) → t ≡ false → (t && x) ≡ r → t ≡ r
+and_off x e h = e ∙ ap (λ s. s && x) (sym e) ∙ h
+
+-- the bytes from that of dot `width` on, of which the first is masked
+pub spare_split : (row spare : List ℕ) (width m : ℕ) → Bytes row → m ≡ min (width / 8) (length row) → spare ≡ take (length row - m) (drop m row) → 0 < length spare
+    → (eqb (bit_and (get_or spare 0 0) (255 / 2 ^ (width % 8))) 0 && list_all (λ b. eqb b 0) (take (length spare - 1) (drop 1 spare))) ≡ spare_clear row width
+spare_split row spare width m bytes q e h =
+    let within : width / 8 < length row = omega (arith, ap length e, length-take (length row - m) (drop m row), length-drop m row) in
+    let n : m ≡ width / 8 = omega arith in
+    let whole : spare ≡ drop (width / 8) row = e ∙ between_to_end row m (length row) (omega arith) ∙ ap (λ (i : ℕ). drop i row) n in
+    let first : get_or spare 0 0 ≡ get_or row (width / 8) 0 =
+    ap (λ (l : List ℕ). get_or l 0 0) whole ∙ get_or-drop (width / 8) row 0 0 ∙ ap (λ (i : ℕ). get_or row i 0) (add-zero (width / 8)) in
+    let later : take (length spare - 1) (drop 1 spare) ≡ drop (width / 8 + 1) row =
+    between_to_end spare 1 (length spare) (omega arith) ∙ ap (drop 1) whole ∙ drop-drop 1 (width / 8) row in
+    ap₂ (λ (b : ℕ) (l : List ℕ). eqb (bit_and b (255 / 2 ^ (width % 8))) 0 && list_all (λ b. eqb b 0) l) first later
+    ∙ ap (λ (t : Bool). eqb (bit_and (get_or row (width / 8) 0) (255 / 2 ^ (width % 8))) 0 && t) (rest_zero row (width / 8 + 1) (length row) bytes (omega arith))
+    ∙ sym (rest_first row width ∙ rest_byte row (width / 8) (width % 8) bytes within (omega arith))
+
+-- no byte is left
+pub spare_none : (row : List ℕ) (width m : ℕ) → m ≡ min (width / 8) (length row) → length (take (length row - m) (drop m row)) ≡ 0 → true ≡ spare_clear row width
+spare_none row width m q e =
+    sym (rest_first row width ∙ rest_none row (width / 8) (width % 8) (omega (arith, length-take (length row - m) (drop m row), length-drop m row)))
 
 -- ---- what a caller learns
 

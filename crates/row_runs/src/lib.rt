@@ -1,7 +1,8 @@
 // Runs of like dots in a row, and the dots past a width. A row is that of crate `row`.
 #![tactic(auto)]
 
-ghost use Rattle.std.specs.Prelude.{◌≡◌, ◌-◌, ◌*◌, ◌≤◌, max};
+ghost use Rattle.std.specs.Prelude.{◌≡◌, ◌-◌, ◌*◌, ◌≤◌, ◌==◌, max};
+ghost use Rattle.std.specs.List.{list_all, prefix_len};
 ghost use Rattle.row.specs.Dots.{dot_at};
 ghost use Rattle.row_runs.specs.Runs.{first_not, run_end};
 ghost use Rattle.row_runs.specs.Spare.{spare_clear};
@@ -12,14 +13,19 @@ use row::{dot, whole};
 fn run_dots(row: &[u8], v: bool, from: usize, to: usize) -> usize
     ensures { result ≡ first_not v (dot_at row.now) to from (to - from) }
 {
-    let mut end = from;
-    while end < to {
-        if dot(row, end) != v {
-            return end;
+    for f in from..to {
+        if dot(row, f) != v {
+            return f;
         }
-        end += 1;
     }
     to
+}
+
+// How many bytes at the front are b.
+fn like_bytes(bytes: &[u8], b: u8) -> usize
+    ensures { result ≡ prefix_len (λ x. x == b) bytes.now }
+{
+    bytes.iter().take_while(|byte| **byte == b).count()
 }
 
 // A byte from `from` on, up to `to`, such that the dots of the bytes before it are all v.
@@ -28,15 +34,11 @@ fn pass_bytes(row: &[u8], v: bool, from: usize, to: usize) -> usize
     ensures upper_bound { result ≤ max from to }
     ensures from_value { first_not v (dot_at row.now) (8 * result) (8 * from) (8 * result - 8 * from) ≡ 8 * result }
 {
-    let b = whole(v);
-    let mut i = from;
-    while i < to && i < row.len() {
-        if row[i] != b {
-            return i;
-        }
-        i += 1;
+    let end = to.min(row.len());
+    if end <= from {
+        return from;
     }
-    i
+    from + like_bytes(&row[from..end], whole(v))
 }
 
 // The first dot after `from`, below `width`, that differs from dot `from`; `width` where there is none. Whole bytes of a run are passed at once.
@@ -62,15 +64,16 @@ pub fn run_end(row: &[u8], from: usize, width: usize) -> usize
 pub fn spare_clear(row: &[u8], width: usize) -> bool
     ensures { result ≡ spare_clear row.now width }
 {
-    let mut at = width / 8;
-    // The first dot of byte `at` to look at.
-    let mut k = width % 8;
-    while at < row.len() {
-        if row[at] & (255u8 >> k) != 0 {
-            return false;
-        }
-        k = 0;
-        at += 1;
+    let spare = &row[(width / 8).min(row.len())..];
+    match spare {
+        [first, later @ ..] => first & (255 >> (width % 8)) == 0 && all_zero(later),
+        [] => true,
     }
-    true
+}
+
+// Whether each byte is 0.
+fn all_zero(bytes: &[u8]) -> bool
+    ensures { result ≡ list_all (λ b. b == 0) bytes.now }
+{
+    bytes.iter().all(|byte| *byte == 0)
 }

@@ -9,7 +9,6 @@ use lib.ListN.{length, get_or, drop, set, length-append, length-set}
 use lib.Seq.{drop-cons, drop-length, get_or-set_same, drop-set-lt, get_or_at}
 use Rattle.text.specs.Numbers.{hex_digit, hex_of, decimal_in, decimal}
 use Rattle.text.specs.Lines.{page_label, band_label, rows_label, dots_label, newline, band_line, row_line}
-use Rattle.buffers.specs.Buffers.{written, count}
 use Rattle.text.proofs.Numbers.{decimal_last, decimal_digit, hex_length, hex_high, hex_low}
 use Rattle.buffers.proofs.Buffers.{Begun, begun_first, begun_at, begun_next}
 
@@ -85,7 +84,7 @@ numbered-done {line₀} {line} {end} {n} {at} {rest} r g h =
     let b : at < length line = omega (arith, r.room, r.size, r.place, r.most) in
     put_before line at (48 + rest) b ∙ sym (r.made ∙ decimal_digit r.left rest (drop (suc at) line) h)
 
--- ---- a label
+-- ---- a label, put byte by byte from its end
 
 -- the label from its byte i on stands before place `end`
 pub record Labelled (line₀ : List ℕ) (end : ℕ) (label : List ℕ) (start : ℕ) (line : List ℕ) (i : ℕ) : Type 0 where
@@ -136,24 +135,11 @@ labelled_done {line₀} {label} {line} {end} {start} {i} r e =
 
 -- ---- the lines of labels and numbers
 
--- a label before a number
-pub pair_made : (label digits s : List ℕ) {t u : List ℕ} → t ≡ digits ++ s → u ≡ label ++ t → u ≡ label ++ digits ++ s
-pair_made label digits s e f = f ∙ ap (λ (x : List ℕ). label ++ x) e ∙ sym (append_assoc label digits s)
-
--- a label and a number before a label and a number
-pub pairs_made : (a b c d s : List ℕ) {t u : List ℕ} → t ≡ c ++ d ++ s → u ≡ a ++ b ++ t → u ≡ a ++ b ++ c ++ d ++ s
-pairs_made a b c d s e f = f ∙ ap (λ (x : List ℕ). a ++ b ++ x) e ∙ simp append_assoc
-
--- two such pairs before two
+-- two labels, each with its number, before two
 pub band_made : (page band rows dots : ℕ) {t u : List ℕ} → t ≡ rows_label ++ decimal rows ++ dots_label ++ decimal dots ++ newline
     → u ≡ page_label ++ decimal page ++ band_label ++ decimal band ++ t → u ≡ band_line page band rows dots
 unfolding band_line
 band_made page band rows dots e f = f ∙ ap (λ (x : List ℕ). page_label ++ decimal page ++ band_label ++ decimal band ++ x) e ∙ simp append_assoc
-
--- what is put into the buffer is the line
-pub line_put : (made line out₀ : List ℕ) {out : List ℕ} {r : ℕ} → made ≡ line → (r ≡ count made out₀) × (out ≡ written made out₀)
-    → (r ≡ count line out₀) × (out ≡ written line out₀)
-line_put made line out₀ e h = (h.0 ∙ ap (λ (t : List ℕ). count t out₀) e, h.1 ∙ ap (λ (t : List ℕ). written t out₀) e)
 
 -- ---- the line of a row
 
@@ -190,8 +176,9 @@ rowed_next {row} {out₀} {out} {i} {u} {v} r h e f =
     }
 
 -- the newline
-pub rowed_last : {row out₀ out : List ℕ} {i : ℕ} → Rowed row out₀ i out → i ≡ length row → Begun (row_line row) out₀ (2 * i + 1) (set out (2 * i) 10)
+pub rowed_last : {row out₀ out : List ℕ} {i : ℕ} → Rowed row out₀ i out → i ≡ length row
+    → Begun (row_line row) out₀ (2 * length row + 1) (set out (2 * length row) 10)
 unfolding row_line
 rowed_last {row} {out₀} {out} {i} r e =
-    let n : length (hex_of row) ≡ 2 * i = hex_length row ∙ ap (λ (j : ℕ). 2 * j) (sym e) in
-    begun_next r.begun (omega (arith, row_length_lem row)) (sym (get_or_at (hex_of row) 10 [] 0 (2 * i) n))
+    begun_next (begun_at r.begun (ap (λ (j : ℕ). 2 * j) e)) (omega (arith, row_length_lem row))
+    (sym (get_or_at (hex_of row) 10 [] 0 (2 * length row) (hex_length row)))

@@ -4,18 +4,21 @@ use mathlib.Core.List.{List, [], ◌∷◌, ◌++◌, append_assoc}
 use Prim.Native.Nat.{ℕ, zero, suc, ◌+◌, ◌*◌, ◌/◌, ◌%◌, ◌<◌, ◌≤◌}
 use native.Mathlib.Omega.{arith}
 use borrow.Author.Tests.{lt-ltb, le-ltb}
-use lib.ListN.{length, get_or}
-use Rattle.text.specs.Numbers.{hex_digit, hex_of, decimal_in}
+use lib.Dec.{ltb}
+use lib.ListN.{length, get_or, length-append}
+use mathlib.Core.Bool.{cond}
+use native.Mathlib.Decide.{dec_lt}
+use Rattle.text.specs.Numbers.{hex_digit, hex_of, decimal_in, decimal}
 
 -- ---- hexadecimal
 
-pub hex_digit_low : {d : ℕ} → d < 10 → 48 + d ≡ hex_digit d
+pub hex_digit_low : (d : ℕ) → d < 10 → hex_digit d ≡ 48 + d
 unfolding hex_digit
-hex_digit_low h = rw (lt-ltb _ _ h) refl
+hex_digit_low d h = rw (lt-ltb _ _ h) refl
 
-pub hex_digit_high : {d : ℕ} → 10 ≤ d → 55 + d ≡ hex_digit d
+pub hex_digit_high : (d : ℕ) → 10 ≤ d → hex_digit d ≡ 55 + d
 unfolding hex_digit
-hex_digit_high h = rw (le-ltb _ _ h) refl
+hex_digit_high d h = rw (le-ltb _ _ h) refl
 
 pub hex_length : (row : List ℕ) → length (hex_of row) ≡ 2 * length row
 unfolding hex_of
@@ -51,3 +54,18 @@ pub decimal_digit : (k n : ℕ) (s : List ℕ) → n < 10 → decimal_in k n ++ 
 unfolding decimal_in
 decimal_digit zero n s h = ap (λ (d : ℕ). (48 + d) ∷ s) (omega arith)
 decimal_digit (suc k) n s h = rw (lt-ltb _ _ h) refl
+
+-- it has at most k + 1 digits
+length-decimal_in : (k n : ℕ) → length (decimal_in k n) ≤ k + 1
+unfolding decimal_in
+length-decimal_in zero n = omega arith
+length-decimal_in (suc k) n = go (length-decimal_in k (n / 10)) (dec_lt n 10)
+  where
+    go : length (decimal_in k (n / 10)) ≤ k + 1 → Dec (n < 10)
+        → length (cond (ltb n 10) ((48 + n) ∷ []) (decimal_in k (n / 10) ++ ((48 + n % 10) ∷ []))) ≤ suc k + 1
+    go l (yes h) = rw (lt-ltb _ _ h) (omega arith)
+    go l (no h) = rw (le-ltb n 10 (omega arith)) (omega (arith, length-append (decimal_in k (n / 10)) ((48 + n % 10) ∷ [])))
+
+pub length-decimal : (n : ℕ) → length (decimal n) ≤ 20
+unfolding decimal
+length-decimal n = length-decimal_in 19 n

@@ -1,24 +1,19 @@
--- `row_runs::spare_clear` meets its contract. The loop's invariant: the answer is that of the dots from dot k of byte `at` on. Assumes nothing.
-use mathlib.Core.Path.{sym, ◌∙◌}
-use native.Mathlib.Omega.{arith}
-use Rattle.row_runs.proofs.Spare.{rest_first, rest_set, rest_on, rest_none}
+-- `row_runs::spare_clear` meets its contract: the first byte's dots before the width are masked, and each later byte has to be 0. Assumes nothing.
+use Rattle.std.proofs.Common.{refl, ◌∙◌, eq-eqb, arith}
+use borrow.Author.Tests.{ne_eqb}
+use Rattle.row_runs.proofs.Spare.{and_on, and_off, spare_none, spare_split}
 use Rattle.row_runs.proofs.spare_clear.Goals as goal
 
-pub loop-at-init : goal.loop-at-init
-loop-at-init c = (omega arith, rest_first c.args.row.now c.args.width)
+pub returns-in-empty : goal.returns-in-empty
+returns-in-empty c = spare_none c.args.row.now _ c.min.result c.min.ensures (omega (arith, c.in-empty.len_below))
 
-pub returns-then-row-at-ne0 : goal.returns-then-row-at-ne0
-returns-then-row-at-ne0 c =
-    let r = c.args.row.now in
-    sym
-    (c.loop-at.invariant.1
-    ∙ rest_set r c.loop-at.at c.loop-at.k (λ j. (c.type_inv.row j).fits) (omega arith) c.loop-at.invariant.0 c.if-row-at-ne0.true)
+pub returns-then-first-width-eq0 : goal.returns-then-first-width-eq0
+returns-then-first-width-eq0 c =
+    c.all_zero.ensures
+    ∙ and_on (eq-eqb _ _ c.if-first-width-eq0.true)
+    (spare_split c.args.row.now _ _ c.min.result (λ j. (c.type_inv.row j).fits) c.min.ensures refl c.in-len1-up.len_at_least)
 
-pub loop-at-preserved : goal.loop-at-preserved
-loop-at-preserved c =
-    let r = c.args.row.now in
-    (omega arith, c.loop-at.invariant.1 ∙ rest_on r c.loop-at.at c.loop-at.k (λ j. (c.type_inv.row j).fits) (omega arith) c.loop-at.invariant.0 c.if-row-at-ne0.false)
-
-pub returns : goal.returns
-returns c =
-    sym (c.loop-at.invariant.1 ∙ rest_none c.args.row.now c.loop-at.at c.loop-at.k (omega arith))
+pub returns-else-first-width-eq0 : goal.returns-else-first-width-eq0
+returns-else-first-width-eq0 c =
+    and_off _ (ne_eqb _ _ c.if-first-width-eq0.false)
+    (spare_split c.args.row.now _ _ c.min.result (λ j. (c.type_inv.row j).fits) c.min.ensures refl c.in-len1-up.len_at_least)

@@ -1,13 +1,13 @@
 -- `text::pages_line` meets its contract. Assumes nothing.
+use Rattle.std.proofs.Common.{◌≡◌, ap, ◌∙◌}
 use Rattle.text.specs.Lines.{pages_label, bands_label, pages_line}
-use Rattle.text.proofs.Lines.{line_put}
+use Rattle.buffers.specs.Buffers.{written, count}
 use Rattle.text.proofs.pages_line.Goals as goal
-
-pub shape_of-out : goal.shape_of-out
-shape_of-out c = c.put_line.auto.out
 
 pub returns : goal.returns
 unfolding pages_label bands_label pages_line
 returns c =
-    let a = c.args in
-    let e = line_put _ (pages_line a.pages a.bands) _ c.put_pairs-start.ensures.line_after (c.put_line.ensures.value, c.put_line.ensures.out_after) in record { value = e.0; out_after = e.1 }
+    let made : c.put_pairs.new.self ≡ pages_line c.args.pages c.args.bands = rw c.new-line.ensures at c.put_pairs.ensures in record {
+      value = c.put_into.ensures.value ∙ ap (λ t. count t c.args.out.now) made;
+      out_after = c.put_into.ensures.out_after ∙ ap (λ t. written t c.args.out.now) made;
+    }

@@ -1,6 +1,5 @@
 -- `text::row_line` meets its contract. The loop's invariant: the digits of the row's first i bytes are put. Assumes nothing.
-use native.Mathlib.Omega.{arith}
-use lib.ListN.{length-set}
+use Rattle.std.proofs.Common.{sym, arith}
 use Rattle.buffers.proofs.Buffers.{begun_written, counted, too_short, too_short_count}
 use Rattle.text.proofs.Lines.{row_length_lem, row_short, rowed_first, rowed_next, rowed_last}
 use Rattle.text.proofs.row_line.Goals as goal
@@ -16,26 +15,13 @@ returns-then-out-row c =
 pub loop-i-init : goal.loop-i-init
 loop-i-init c = rowed_first _ _ (omega arith)
 
-pub hex_digit-requires : goal.hex_digit-requires
-hex_digit-requires c = omega (arith, c.type_inv.row c.loop-i.i)
-
-pub hex_digit-requires-in-loop-i : goal.hex_digit-requires-in-loop-i
-hex_digit-requires-in-loop-i c = omega (arith, c.type_inv.row c.loop-i.i)
-
-pub bounds-out-i-in-loop-i : goal.bounds-out-i-in-loop-i
-bounds-out-i-in-loop-i c = simp length-set (omega arith)
-
 pub loop-i-preserved : goal.loop-i-preserved
-loop-i-preserved c =
-    rowed_next c.loop-i.invariant (omega arith) c.hex_digit.ensures c.hex_digit-in-loop-i.ensures
-
-pub shape_of-out : goal.shape_of-out
-shape_of-out c = simp length-set c.loop-i.invariant.begun.size
+loop-i-preserved c = rowed_next c.loop-i.invariant (omega arith) c.hex_digit.ensures c.hex_digit-in-loop-i.ensures
 
 pub returns : goal.returns
 returns c =
     let a = c.args in
     let b = rowed_last c.loop-i.invariant (omega arith) in record {
-      value = counted _ _ b.room (omega (arith, row_length_lem a.row.now));
-      out_after = begun_written b (omega (arith, row_length_lem a.row.now));
+      value = counted _ _ b.room (sym (row_length_lem a.row.now));
+      out_after = begun_written b (sym (row_length_lem a.row.now));
     }
