@@ -13,53 +13,34 @@ use film_cursor::test_band;
 use film_herald::{bands_per_page, test_herald};
 use film_layout::{Node, first_page, next};
 use film_words::word;
-use refusal::{Refusal, Tested};
-
-// Words after the last page.
-const WORDS_AFTER: u8 = 10;
-
-// The number of pages, or a refusal.
-#[derive(Clone, Copy)]
-pub enum Checked {
-    Pages(usize),
-    Refused(Refusal),
-}
+use refusal::{Fault, Refusal};
 
 // The walk over pages and bands, with each band's commands.
-fn check_pages(sheet: &[u8], load: &[u8]) -> Checked
+#[tactic(auto, unfolding(crate::specs::Check::check_layout))]
+fn check_pages(sheet: &[u8], load: &[u8]) -> Result<usize, Refusal>
     ensures { checked_as result ≡ check_layout (load_words load.now) (page_count (words sheet.now)) (layout_of (words sheet.now)) }
 {
     let per_page = bands_per_page(sheet);
     let mut w = first_page(sheet);
     loop {
-        match next(sheet, per_page, w) {
-            Node::Page(v) => w = v,
+        w = match next(sheet, per_page, w)? {
+            Node::Page(v) => v,
             Node::Band { from, end, next: v } => {
-                if let Tested::Refused(x) = test_band(sheet, load, from, end) {
-                    return Checked::Refused(x);
-                }
-                w = v;
+                test_band(sheet, load, from, end)?;
+                v
             }
-            Node::End(p) => {
-                if p < sheet.len() / 2 {
-                    return Checked::Refused(Refusal {
-                        number: WORDS_AFTER,
-                        place: p,
-                    });
-                }
-                return Checked::Pages(word(sheet, 11) as usize);
-            }
-            Node::Refused(x) => return Checked::Refused(x),
-        }
+            Node::End(p) if p < sheet.len() / 2 => return Err(Fault::WordsAfter.at(p)),
+            Node::End(_) => return Ok(word(sheet, 11) as usize),
+        };
     }
 }
 
-// The check of a sheet with its load: the first refusal, or how many pages there are.
-pub fn check(sheet: &[u8], load: &[u8]) -> Checked
+// The check of a sheet with its load: the first refusal, or how many pages there are. They stay two slices, as in the promise: a struct of the two
+// would be made here and opened again in every function that looks at one of them.
+#[tactic(auto, unfolding(crate::specs::Check::check_answer))]
+pub fn check(sheet: &[u8], load: &[u8]) -> Result<usize, Refusal>
     ensures { CheckPromised sheet.now load.now result }
 {
-    match test_herald(sheet, load) {
-        Tested::Refused(x) => Checked::Refused(x),
-        Tested::Fine => check_pages(sheet, load),
-    }
+    test_herald(sheet, load)?;
+    check_pages(sheet, load)
 }

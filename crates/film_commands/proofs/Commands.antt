@@ -4,7 +4,7 @@ use mathlib.Core.Bool.{Bool, true, false, cond, ◌||◌}
 use mathlib.Core.List.{List, []}
 use mathlib.Core.Option.{Option, none, some}
 use Prim.Native.Nat.{ℕ, zero, suc, ◌+◌, ◌-◌, ◌/◌, ◌<◌, ◌≤◌}
-use native.Mathlib.Decide.{dec_le, dec_lt}
+use native.Mathlib.Decide.{dec_le}
 use native.Mathlib.Omega.{arith}
 use borrow.Author.Tests.{lt-ltb, le-ltb, eq-eqb, ne_eqb}
 use lib.Dec.{ltb, eqb}
@@ -320,29 +320,16 @@ unfolding command_in
 command-at load now sheet args p e code h l a w =
     ap₂ (λ (x : ℕ) (r : List ℕ). command load now x (words r)) w a ∙ ap (command_in load now) (sym (part_first sheet p e h l))
 
--- the code is not any of 1 to n
-abbrev pub NoneTo : ℕ → ℕ → Type 0
-NoneTo zero code = Unit {0}
-NoneTo (suc n) code = NoneTo n code × (code ≡ suc n → ⊥)
+pub command_here : (load : List ℕ) (least : ℕ) (sheet : List ℕ) (p e : ℕ) → p < e → e ≤ length sheet / 2
+    → command_in load least (words (part_of sheet p e)) ≡ command load least (at (words sheet) p) (words (part_of sheet (p + 1) e))
+command_here load least sheet p e h l = sym (command-at load least sheet (part_of sheet (p + 1) e) p e (at (words sheet) p) h (omega (arith, length-words sheet)) refl refl)
 
-none_to : (n code k : ℕ) → NoneTo n code → k < n → code ≡ suc k → ⊥
-none_to zero code k h l e = omega arith
-none_to (suc n) code k h l e = go (dec_lt k n) (λ m. none_to n code k h.0 m e)
-  where
-    go : Dec (k < n) → (k < n → ⊥) → ⊥
-    go (yes m) r = r m
-    go (no m) r = h.1 (omega arith)
-
--- then it is 0 or over 10, as the table tests it
-unknown : (code : ℕ) → NoneTo 10 code → (eqb code 0 || ltb 10 code) ≡ true
+-- a code that is not any of 1 to 10 is 0 or over 10, as the table tests it
+unknown : (code : ℕ) → (1 ≤ code → 10 < code) → (eqb code 0 || ltb 10 code) ≡ true
 unknown zero h = refl
-unknown (suc k) h = rw (ne_eqb (suc k) 0 (λ e. omega arith)) (lt-ltb 10 (suc k) (go (dec_lt k 10)))
-  where
-    go : Dec (k < 10) → 10 < suc k
-    go (yes l) = absurd (none_to 10 (suc k) k h l refl)
-    go (no l) = omega arith
+unknown (suc k) h = rw (ne_eqb (suc k) 0 (λ e. omega arith)) (lt-ltb 10 (suc k) (h (omega arith)))
 
 -- and the command is refused
-pub command_unknown : (load : List ℕ) (now code : ℕ) (args : List ℕ) → NoneTo 10 code → command load now code args ≡ refused 7 0
+pub command_unknown : (load : List ℕ) (now code : ℕ) (args : List ℕ) → (1 ≤ code → 10 < code) → command load now code args ≡ refused 7 0
 unfolding command command_table first
 command_unknown load now code args h = rw (unknown code h) refl

@@ -1,12 +1,13 @@
 -- Laws of a cursor: what its steps are, what is ahead of it at a band's first command, and the band's test as its walk. Assumes nothing.
 use mathlib.Core.Path.{◌≡◌, refl, sym, ap, ap₂, subst, ◌∙◌}
-use mathlib.Core.Bool.{Bool, true, false}
+use Rattle.std.proofs.Common.{Option, Some, None, Result, Ok, Err, true, false}
 use mathlib.Core.List.{List, [], ◌++◌}
 use Prim.Native.Nat.{ℕ, suc, ◌+◌, ◌-◌, ◌<◌, ◌≤◌}
 use native.Mathlib.Omega.{arith}
 use lib.ListN.{length, take, drop}
 use Rattle.refusal.specs.Answers.{given, refused, fine, counted_from}
 use Rattle.refusal.specs.Code.{refused_as}
+use Rattle.refusal.specs.Faults.{number_of}
 use Rattle.refusal.specs.declared.Refusal.{Refusal}
 use Rattle.film_words.specs.Words.{words, at}
 use Rattle.film_words.specs.Parts.{part_of}
@@ -19,14 +20,17 @@ use Rattle.film_cursor.specs.Cursors.{reading, Ahead, ahead_of, moved_to, step_a
 use Rattle.film_commands.specs.declared.Mask as code-mask
 use Rattle.film_commands.specs.declared.Command as code-command
 use Rattle.film_commands.specs.declared.Command.TheVariants.{Priority, Ink, Clear, Tile, Paint}
-use Rattle.film_commands.specs.declared.Read as code
-use Rattle.film_commands.specs.declared.Read.TheVariants.{Whole, Refused}
+use Rattle.film_commands.specs.declared.Tile as code-tile
 use Rattle.film_commands.specs.declared.Colour.TheVariants as colour
 use Rattle.film_cursor.specs.declared.Cursor.{Cursor}
 use Rattle.film_cursor.specs.declared.Step.{Step}
 use Rattle.film_cursor.specs.declared.Step.TheVariants as step
 use Rattle.film_commands.proofs.Answers.{given_same}
 use Rattle.film_commands.proofs.Band.{onward, refusal, read_moved, strokes-moved}
+
+-- what a step answers
+abbrev pub Stride : Type 0
+Stride = Result (Option Step) Refusal
 
 -- what is ahead, where the priority is q and the colour C, of what is read
 abbrev ahead : ℕ → Colour → Reading → Ahead
@@ -41,7 +45,7 @@ part_on file b e k q l s =
     drop_part file b e k q l s ∙ ap (λ (x : ℕ). take x (drop q (words file))) n ∙ sym (part_words file q e l)
 
 -- no command is left
-pub step_end : (sheet load : List ℕ) (e : ℕ) (c : Cursor) → part_of sheet c.at e ≡ [] → Stepped sheet load e c step.End
+pub step_end : (sheet load : List ℕ) (e : ℕ) (c : Cursor) → part_of sheet c.at e ≡ [] → Stepped sheet load e c (Ok None)
 unfolding ahead_of read_from strokes_from words
 step_end sheet load e c h =
     record {
@@ -54,7 +58,7 @@ step_end sheet load e c h =
     }
 
 -- the reader gives r
-module _ (sheet load : List ℕ) (e : ℕ) (c : Cursor) (h : c.at < e) (l : e ≤ length (words sheet)) (r : code.Read)
+module _ (sheet load : List ℕ) (e : ℕ) (c : Cursor) (h : c.at < e) (l : e ≤ length (words sheet)) (r : Result (code-command.Command × ℕ) Refusal)
     (x : read_as sheet load r ≡ placed c.at (command_in (load_words load) c.least (words (part_of sheet c.at e)))) where
   -- the load's words, the cursor's code word, the words after it, and its colour
   abbrev L : List ℕ
@@ -89,11 +93,11 @@ module _ (sheet load : List ℕ) (e : ℕ) (c : Cursor) (h : c.at < e) (l : e �
   by_code t q = ap (command_in L c.least) (sym (part_first sheet c.at e h l)) ∙ q
 
   -- it is whole
-  whole : (d : code-command.Command) (next : ℕ) → r ≡ Whole d next → (c.at < next) × (ahead_of sheet load e c ≡ after (command_of sheet load d) next)
+  whole : (d : code-command.Command) (next : ℕ) → r ≡ Ok (d, next) → (c.at < next) × (ahead_of sheet load e c ≡ after (command_of sheet load d) next)
   unfolding ahead_of strokes_from
   whole d next y = go here refl (sym (ap (read_as sheet load) y) ∙ x)
     where
-      go : (t : Taken) → here ≡ t → read_as sheet load (Whole d next) ≡ placed c.at t
+      go : (t : Taken) → here ≡ t → read_as sheet load (Ok (d, next)) ≡ placed c.at t
           → (c.at < next) × (ahead c.least C (from c.least c.at) ≡ after (command_of sheet load d) next)
       go (given w) q z =
           let same : w.command ≡ command_of sheet load d = sym (ap (λ (k : Placed). k.command) (given_same z)) in
@@ -112,7 +116,7 @@ module _ (sheet load : List ℕ) (e : ℕ) (c : Cursor) (h : c.at < e) (l : e �
       go (refused n i) q z = let o : ◌≡◌ {A = ℕ} 0 1 = cc in absurd (omega arith)
 
   -- it is refused
-  refusing : (v : Refusal) → r ≡ Refused v → Stepped sheet load e c (step.Refused v)
+  pub refusing : (v : Refusal) → r ≡ Err v → Stepped sheet load e c (Err v)
   unfolding ahead_of strokes_from
   refusing v y = record { is = go here refl (sym (ap (read_as sheet load) y) ∙ x); on = tt }
     where
@@ -120,64 +124,50 @@ module _ (sheet load : List ℕ) (e : ℕ) (c : Cursor) (h : c.at < e) (l : e �
           → record { strokes = []; ends = refused_as v } ≡ ahead c.least C (from c.least c.at)
       go (given w) q z = let o : ◌≡◌ {A = ℕ} 0 1 = cc in absurd (omega arith)
       go (refused n i) q z =
-          let number : n ≡ v.number = cc in
+          let number : n ≡ number_of v.fault = cc in
           let place : c.at + i ≡ v.place = cc in
           sym
           (ap (ahead c.least C)
           (ap (read_from L c.least 0 c.at) (part_first sheet c.at e h l) ∙ refusal L c.least c.at w₀ n i args (by_code _ q))
           ∙ ap₂ (λ (m p : ℕ). record { strokes = []; ends = refused m p }) number place)
 
-  -- a refusal is handed on
-  pub step-refused : (s : Step) (v : Refusal) → r ≡ Refused v → ((w : Refusal) → r ≡ Refused w → s ≡ step.Refused w) → Stepped sheet load e c s
-  step-refused s v y f = rw (f v y) (refusing v y)
-
   -- the commands, one by one
-  module _ (d : code-command.Command) (next : ℕ) (y : r ≡ Whole d next) where
+  module _ (d : code-command.Command) (next : ℕ) (y : r ≡ Ok (d, next)) where
     -- it is the command k
     found : (k : code-command.Command) → d ≡ k → (c.at < next) × (ahead_of sheet load e c ≡ after (command_of sheet load k) next)
-    found k z = whole k next (y ∙ ap (λ (j : code-command.Command). Whole j next) z)
+    found k z = whole k next (y ∙ ap (λ (j : code-command.Command). Ok (j, next)) z)
 
     -- it is a mask
     pub step_paint : (m : code-mask.Mask) → d ≡ Paint m
-        → Stepped sheet load e c (step.Paint m next)
+        → Stepped sheet load e c (Ok (Some (step.Paint m next)))
     unfolding command_of mask_of ahead_of
     step_paint m z = let w = found (Paint m) z in record { is = sym w.1; on = (h, w.0) }
 
     -- it is a priority
-    pub step_priority : (v : ℕ) → d ≡ Priority v → Stepped sheet load e c (step.Other (record { at = next; least = v; colour = c.colour }))
+    pub step_priority : (v : ℕ) → d ≡ Priority v → Stepped sheet load e c (Ok (Some (step.Other (record { at = next; least = v; colour = c.colour }))))
     unfolding command_of ahead_of
     step_priority v z = let w = found (Priority v) z in record { is = sym w.1; on = (h, w.0) }
 
     -- it is ink
-    pub step_ink : d ≡ Ink → Stepped sheet load e c (step.Other (record { at = next; least = c.least; colour = colour.Solid true }))
+    pub step_ink : d ≡ Ink → Stepped sheet load e c (Ok (Some (step.Other (record { at = next; least = c.least; colour = colour.Solid true }))))
     unfolding command_of ahead_of colour_of colour_with
     step_ink z = let w = found Ink z in record { is = sym w.1; on = (h, w.0) }
 
     -- it is clear
-    pub step_clear : d ≡ Clear → Stepped sheet load e c (step.Other (record { at = next; least = c.least; colour = colour.Solid false }))
+    pub step_clear : d ≡ Clear → Stepped sheet load e c (Ok (Some (step.Other (record { at = next; least = c.least; colour = colour.Solid false }))))
     unfolding command_of ahead_of colour_of colour_with
     step_clear z = let w = found Clear z in record { is = sym w.1; on = (h, w.0) }
 
     -- it is a tile
-    pub step-tile : (t : Bool) (b to : ℕ) → d ≡ Tile t b to
-        → Stepped sheet load e c (step.Other (record { at = next; least = c.least; colour = colour.Tile t b to }))
+    pub step-tile : (t : code-tile.Tile) → d ≡ Tile t
+        → Stepped sheet load e c (Ok (Some (step.Other (record { at = next; least = c.least; colour = colour.Tile t }))))
     unfolding command_of ahead_of colour_of colour_with tile_part part_for
-    step-tile t b to z = let w = found (Tile t b to) z in record { is = sym w.1; on = (h, w.0) }
-
--- ---- what `stopped` answers
-
--- two refusals of one answer are the same
-pub refused-same : {r : code.Read} {v w : Refusal} → r ≡ Refused v → r ≡ Refused w → step.Refused v ≡ step.Refused w
-refused-same y z = cc
-
--- no answer is both whole and a refusal
-pub whole-refused : {r : code.Read} {d : code-command.Command} {n : ℕ} {v : Refusal} → r ≡ Whole d n → r ≡ Refused v → ⊥
-whole-refused y z = let o : ◌≡◌ {A = ℕ} 0 1 = cc in omega arith
+    step-tile t z = let w = found (Tile t) z in record { is = sym w.1; on = (h, w.0) }
 
 -- ---- a walk
 
 -- what is ahead of a cursor whose step is s
-pub met : {sheet load : List ℕ} {e : ℕ} {c : Cursor} {r : Step} (s : Step) → Stepped sheet load e c r → r ≡ s
+pub met : {sheet load : List ℕ} {e : ℕ} {c : Cursor} {r : Stride} (s : Stride) → Stepped sheet load e c r → r ≡ s
     → (ahead_of sheet load e c ≡ step_as sheet load e c s) × Onward e c s
 met {sheet} {load} {e} {c} s x q = (sym x.is ∙ ap (step_as sheet load e c) q, subst (Onward e c) q x.on)
 
@@ -205,23 +195,23 @@ pub test_start : (sheet load : List ℕ) (b e : ℕ) (c : Cursor) → (c.at ≡ 
     → TestedTo sheet load b e c
 test_start sheet load b e c s = record { is = sym (ap (λ (a : Ahead). a.ends) (ahead-at-start sheet load b e c s)) }
 
-module _ {sheet load : List ℕ} {b e : ℕ} {c : Cursor} (i : TestedTo sheet load b e c) {r : Step} (x : Stepped sheet load e c r) where
+module _ {sheet load : List ℕ} {b e : ℕ} {c : Cursor} (i : TestedTo sheet load b e c) {r : Stride} (x : Stepped sheet load e c r) where
   -- how the band ends, by the cursor's step
-  onto : (s : Step) → r ≡ s → counted_from b (reading sheet load b e).ends ≡ (step_as sheet load e c s).ends
+  onto : (s : Stride) → r ≡ s → counted_from b (reading sheet load b e).ends ≡ (step_as sheet load e c s).ends
   onto s q = i.is ∙ ap (λ (a : Ahead). a.ends) (met s x q).0
 
   -- after a mask
-  pub test_paint : (m : code-mask.Mask) (p : ℕ) → r ≡ step.Paint m p → TestedTo sheet load b e (moved_to p c)
-  test_paint m p q = record { is = onto (step.Paint m p) q }
+  pub test_paint : (m : code-mask.Mask) (p : ℕ) → r ≡ Ok (Some (step.Paint m p)) → TestedTo sheet load b e (moved_to p c)
+  test_paint m p q = record { is = onto (Ok (Some (step.Paint m p))) q }
 
   -- after another command
-  pub test_other : (d : Cursor) → r ≡ step.Other d → TestedTo sheet load b e d
-  test_other d q = record { is = onto (step.Other d) q }
+  pub test_other : (d : Cursor) → r ≡ Ok (Some (step.Other d)) → TestedTo sheet load b e d
+  test_other d q = record { is = onto (Ok (Some (step.Other d))) q }
 
   -- at the band's end
-  pub test_fine : r ≡ step.End → fine ≡ counted_from b (reading sheet load b e).ends
-  test_fine q = sym (onto step.End q)
+  pub test_fine : r ≡ Ok None → fine ≡ counted_from b (reading sheet load b e).ends
+  test_fine q = sym (onto (Ok None) q)
 
   -- at a refusal
-  pub test_refused : (v : Refusal) → r ≡ step.Refused v → refused_as v ≡ counted_from b (reading sheet load b e).ends
-  test_refused v q = sym (onto (step.Refused v) q)
+  pub test_refused : (v : Refusal) → r ≡ Err v → refused_as v ≡ counted_from b (reading sheet load b e).ends
+  test_refused v q = sym (onto (Err v) q)

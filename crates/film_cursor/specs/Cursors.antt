@@ -1,7 +1,8 @@
 -- What a cursor over a band's commands, and a step of it, stand for.
-use Rattle.std.specs.Prelude.{◌≡◌, List, [], ◌∷◌, ℕ, ◌<◌}
+use Rattle.std.specs.Prelude.{◌≡◌, Option, Some, None, Result, Ok, Err, List, [], ◌∷◌, ℕ, ◌<◌}
 use Rattle.refusal.specs.Answers.{Verdict, fine}
 use Rattle.refusal.specs.Code.{refused_as}
+use Rattle.refusal.specs.declared.Refusal.{Refusal}
 use Rattle.film_words.specs.Words.{words}
 use Rattle.film_words.specs.Parts.{part_of}
 use Rattle.film_words.specs.Load.{load_words}
@@ -9,7 +10,7 @@ use Rattle.film_commands.specs.Band.{Reading, read_from, read_band, Stroke, stro
 use Rattle.film_commands.specs.Code.{mask_of, colour_of}
 use Rattle.film_cursor.specs.declared.Cursor.{Cursor}
 use Rattle.film_cursor.specs.declared.Step as code
-use Rattle.film_cursor.specs.declared.Step.TheVariants.{Paint, Other, End, Refused}
+use Rattle.film_cursor.specs.declared.Step.TheVariants.{Paint, Other}
 
 -- what is read of the commands from place p of the sheet up to, not including, place e
 abbrev pub reading : (sheet load : List ℕ) (p e : ℕ) → Reading
@@ -34,21 +35,21 @@ with_stroke k a = record { strokes = k ∷ a.strokes; ends = a.ends }
 abbrev pub moved_to : ℕ → Cursor → Cursor
 moved_to p c = record { at = p; least = c.least; colour = c.colour }
 
--- a step of cursor c, and what is ahead after it
-abbrev pub step_as : (sheet load : List ℕ) (e : ℕ) → Cursor → code.Step → Ahead
-step_as sheet load e c (Paint m p) = with_stroke (stroke c.at c.least (colour_of load c.colour) (mask_of sheet load m)) (ahead_of sheet load e (moved_to p c))
-step_as sheet load e c (Other d) = ahead_of sheet load e d
-step_as sheet load e c End = record { strokes = []; ends = fine }
-step_as sheet load e c (Refused r) = record { strokes = []; ends = refused_as r }
+-- a step of cursor c, the band's end or a refusal, and what is ahead after it
+abbrev pub step_as : (sheet load : List ℕ) (e : ℕ) → Cursor → Result (Option code.Step) Refusal → Ahead
+step_as sheet load e c (Ok (Some (Paint m p))) = with_stroke (stroke c.at c.least (colour_of load c.colour) (mask_of sheet load m)) (ahead_of sheet load e (moved_to p c))
+step_as sheet load e c (Ok (Some (Other d))) = ahead_of sheet load e d
+step_as sheet load e c (Ok None) = record { strokes = []; ends = fine }
+step_as sheet load e c (Err r) = record { strokes = []; ends = refused_as r }
 
 -- a cursor goes on in the band
-abbrev pub Onward : ℕ → Cursor → code.Step → Type 0
-Onward e c (Paint m p) = (c.at < e) × (c.at < p)
-Onward e c (Other d) = (c.at < e) × (c.at < d.at)
-Onward e c End = Unit
-Onward e c (Refused r) = Unit
+abbrev pub Onward : ℕ → Cursor → Result (Option code.Step) Refusal → Type 0
+Onward e c (Ok (Some (Paint m p))) = (c.at < e) × (c.at < p)
+Onward e c (Ok (Some (Other d))) = (c.at < e) × (c.at < d.at)
+Onward e c (Ok None) = Unit
+Onward e c (Err r) = Unit
 
--- what a step of cursor c is
-pub record Stepped (sheet load : List ℕ) (e : ℕ) (c : Cursor) (r : code.Step) : Type 0 where
+-- what the answer for cursor c is
+pub record Stepped (sheet load : List ℕ) (e : ℕ) (c : Cursor) (r : Result (Option code.Step) Refusal) : Type 0 where
   pub is : step_as sheet load e c r ≡ ahead_of sheet load e c
   pub on : Onward e c r

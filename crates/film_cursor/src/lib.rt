@@ -9,8 +9,8 @@ ghost use Rattle.film_words.specs.Load.{load_words};
 ghost use Rattle.film_commands.specs.Band.{band_test};
 ghost use Rattle.film_cursor.specs.Cursors.{Stepped};
 
-use film_commands::{Colour, Command, Mask, Read, read_command};
-use refusal::{Refusal, Tested};
+use film_commands::{Colour, Command, Mask, read_command};
+use refusal::Refusal;
 
 // A cursor over a band's commands: the place of the next one, and the priority and the colour that hold there.
 #[derive(Clone, Copy)]
@@ -20,76 +20,39 @@ pub struct Cursor {
     pub colour: Colour,
 }
 
-// What stands at a cursor: a mask, to be painted in the cursor's colour, and the place after it; another command, and the cursor after it; the band's
-// end; or a refusal.
+// What stands at a cursor: a mask, to be painted in the cursor's colour, and the place after it; or another command, and the cursor after it.
 #[derive(Clone, Copy)]
 pub enum Step {
     Paint(Mask, usize),
     Other(Cursor),
-    End,
-    Refused(Refusal),
 }
 
-// What a refusal of the command reader is for a cursor.
-fn stopped(r: Read) -> Step
-    ensures { (x : Refusal) → r ≡ Read.Refused x → result ≡ Step.Refused x }
-{
-    match r {
-        Read::Refused(x) => Step::Refused(x),
-        Read::Whole(_, _) => Step::End,
-    }
-}
-
-// The cursor's next command, in a band that ends before place `end`. Where the sheet has not all words up to `end`, there is none.
-pub fn advance(sheet: &[u8], load: &[u8], end: usize, c: Cursor) -> Step
+// The cursor's next command, in a band that ends before place `end`; none at the band's end. Where the sheet has not all words up to `end`, there is
+// none.
+pub fn advance(sheet: &[u8], load: &[u8], end: usize, c: Cursor) -> Result<Option<Step>, Refusal>
     ensures { Stepped sheet.now load.now end c result }
 {
-    let at = c.at;
-    let least = c.least;
-    if at >= end {
-        return Step::End;
+    if c.at >= end || end > sheet.len() / 2 {
+        return Ok(None);
     }
-    if end > sheet.len() / 2 {
-        return Step::End;
-    }
-    let r = read_command(sheet, load, at, end, least);
-    let Read::Whole(d, next) = r else {
-        return stopped(r);
-    };
-    match d {
+    let (command, next) = read_command(sheet, load, c.at, end, c.least)?;
+    let after = Cursor { at: next, ..c };
+    Ok(Some(match command {
         Command::Paint(m) => Step::Paint(m, next),
-        Command::Priority(v) => {
-            let colour = c.colour;
-            Step::Other(Cursor {
-                at: next,
-                least: v,
-                colour,
-            })
-        }
+        Command::Priority(v) => Step::Other(Cursor { least: v, ..after }),
         Command::Ink => Step::Other(Cursor {
-            at: next,
-            least,
             colour: Colour::Solid(true),
+            ..after
         }),
         Command::Clear => Step::Other(Cursor {
-            at: next,
-            least,
             colour: Colour::Solid(false),
+            ..after
         }),
-        Command::Tile {
-            transparent,
-            from,
-            to,
-        } => Step::Other(Cursor {
-            at: next,
-            least,
-            colour: Colour::Tile {
-                transparent,
-                from,
-                to,
-            },
+        Command::Tile(t) => Step::Other(Cursor {
+            colour: Colour::Tile(t),
+            ..after
         }),
-    }
+    }))
 }
 
 // The cursor at a band's first command: priority 0, and ink.
@@ -104,16 +67,15 @@ pub fn start(from: usize) -> Cursor
 }
 
 // The test of a band's commands, from place `from` up to, not including, place `end`. A sheet that ends before `end` has none there.
-pub fn test_band(sheet: &[u8], load: &[u8], from: usize, end: usize) -> Tested
+pub fn test_band(sheet: &[u8], load: &[u8], from: usize, end: usize) -> Result<(), Refusal>
     ensures { tested_as result ≡ band_test (load_words load.now) from (words (part_of sheet.now from end)) }
 {
     let mut c = start(from);
-    loop {
-        match advance(sheet, load, end, c) {
-            Step::Paint(_, at) => c = Cursor { at, ..c },
-            Step::Other(d) => c = d,
-            Step::End => return Tested::Fine,
-            Step::Refused(x) => return Tested::Refused(x),
-        }
+    while let Some(step) = advance(sheet, load, end, c)? {
+        c = match step {
+            Step::Paint(_, at) => Cursor { at, ..c },
+            Step::Other(d) => d,
+        };
     }
+    Ok(())
 }

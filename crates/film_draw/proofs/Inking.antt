@@ -9,6 +9,8 @@ use borrow.Author.Tests.{lt-ltb, le-ltb}
 use lib.Dec.{ltb, leb-zero}
 use lib.ListN.{length, take, drop, length-append, length-drop}
 use lib.Seq.{length-take-le}
+use Rattle.std.proofs.Common.{Option, Some, None, Result, Ok, Err}
+use Rattle.std.specs.Result.{result_unwrap_or}
 use Rattle.row.specs.Dots.{dot_at, row_of}
 use Rattle.row.specs.Counts.{joined}
 use Rattle.row.proofs.Dots.{Bytes, length-row_of, row_of-same, row_of_add, row_of_front, rewritten}
@@ -184,13 +186,13 @@ pub inked-first : (frame : Frame) (sheet load : List ℕ) (b e : ℕ) (cleared :
 inked-first frame sheet load b e cleared c s = record { is = ap (λ (a : Ahead). ink_out frame a.strokes cleared) (ahead-at-start sheet load b e c s) }
 
 module _ {frame : Frame} {sheet load : List ℕ} {b e : ℕ} {cleared buf : List ℕ} {c : Cursor}
-    (i : Inked frame sheet load b e cleared buf c) {r : Step} (x : Stepped sheet load e c r) where
+    (i : Inked frame sheet load b e cleared buf c) {r : Result (Option Step) Refusal} (x : Stepped sheet load e c r) where
   -- by the cursor's step
-  onto : (s : Step) → r ≡ s → ink_out frame (step_as sheet load e c s).strokes buf ≡ ink_out frame (band_strokes sheet load b e) cleared
+  onto : (s : Result (Option Step) Refusal) → r ≡ s → ink_out frame (step_as sheet load e c s).strokes buf ≡ ink_out frame (band_strokes sheet load b e) cleared
   onto s q = ap (λ (a : Ahead). ink_out frame a.strokes buf) (sym (met s x q).0) ∙ i.is
 
   -- a mask was painted
-  pub inked_paint : {buf' : List ℕ} (m : code-mask.Mask) (p : ℕ) → r ≡ step.Paint m p
+  pub inked_paint : {buf' : List ℕ} (m : code-mask.Mask) (p : ℕ) → r ≡ Ok (Some (step.Paint m p))
       → buf' ≡ painted_frame frame (colour_of load c.colour) (masked (mask_of sheet load m)) buf → Inked frame sheet load b e cleared buf' (moved_to p c)
   unfolding ink_out
   inked_paint m p q paints =
@@ -200,19 +202,24 @@ module _ {frame : Frame} {sheet load : List ℕ} {b e : ℕ} {cleared buf : List
       record {
         is =
             ap (ink_out frame (ahead_of sheet load e (moved_to p c)).strokes) (paints ∙ ap (λ (N : Film). painted_frame frame (colour_of load c.colour) N buf) every)
-            ∙ onto (step.Paint m p) q;
+            ∙ onto (Ok (Some (step.Paint m p))) q;
       }
 
   -- another command is passed
-  pub inked_other : (d : Cursor) → r ≡ step.Other d → Inked frame sheet load b e cleared buf d
-  inked_other d q = record { is = onto (step.Other d) q }
+  pub inked_other : (d : Cursor) → r ≡ Ok (Some (step.Other d)) → Inked frame sheet load b e cleared buf d
+  inked_other d q = record { is = onto (Ok (Some (step.Other d))) q }
 
-  -- no command is left
-  pub inked_end : r ≡ step.End → buf ≡ ink_out frame (band_strokes sheet load b e) cleared
+  -- no command is left, or one is refused
+  pub inked_end : result_unwrap_or r None ≡ None → buf ≡ ink_out frame (band_strokes sheet load b e) cleared
   unfolding ink_out
-  inked_end q = onto step.End q
+  inked_end q = go r refl q
+    where
+      go : (s : Result (Option Step) Refusal) → r ≡ s → result_unwrap_or s None ≡ None → buf ≡ ink_out frame (band_strokes sheet load b e) cleared
+      go (Ok None) h q = onto (Ok None) h
+      go (Ok (Some s)) h q = absurd (cc)
+      go (Err v) h q = onto (Err v) h
 
-  -- a command is refused
-  pub inked-refused : (v : Refusal) → r ≡ step.Refused v → buf ≡ ink_out frame (band_strokes sheet load b e) cleared
-  unfolding ink_out
-  inked-refused v q = onto (step.Refused v) q
+-- a step that is no refusal
+pub stepped : (r : Result (Option Step) Refusal) (s : Step) → result_unwrap_or r None ≡ Some s → r ≡ Ok (Some s)
+stepped (Ok o) s q = ap Ok q
+stepped (Err v) s q = absurd (cc)

@@ -1,6 +1,7 @@
 -- What draw's private functions need and leave.
-use Rattle.std.specs.Prelude.{◌≡◌, List, ◌++◌, ℕ, ◌*◌, ◌≤◌, ◌<◌, length, drop}
+use Rattle.std.specs.Prelude.{◌≡◌, Result, List, ◌++◌, ℕ, ◌*◌, ◌≤◌, ◌<◌, length, drop}
 use Rattle.refusal.specs.Answers.{and_then}
+use Rattle.refusal.specs.declared.Refusal.{Refusal}
 use Rattle.row.specs.Counts.{joined}
 use Rattle.film_words.specs.Words.{words}
 use Rattle.film_words.specs.Load.{load_words}
@@ -44,6 +45,6 @@ abbrev pub drawn_from : Frame → (sheet load : List ℕ) → Walk → (b : ℕ)
 drawn_from frame sheet load w b = and_then (reach b (to_come sheet (band_count (herald_of (words sheet))) w)) (drawn_by frame load)
 
 -- where the answer a is due, the code answers r and leaves `left` in the buffer, which held `held`
-pub record Answered (a : DrawAnswer) (held : List ℕ) (r : Drawn) (left : List ℕ) : Type 0 where
+pub record Answered (a : DrawAnswer) (held : List ℕ) (r : Result Drawn Refusal) (left : List ℕ) : Type 0 where
   pub answer_is : drawn_as r ≡ due a
   pub left_is : left ≡ buffer_after a held

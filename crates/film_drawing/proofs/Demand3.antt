@@ -4,6 +4,8 @@ use mathlib.Core.List.Memᴰ
 use mathlib.Core.List.{List, [], ◌∷◌}
 use Prim.Native.Nat.{ℕ, ◌≤◌}
 use lib.ListN.{length}
+use Rattle.std.proofs.Common.{Result}
+use Rattle.refusal.specs.declared.Refusal.{Refusal}
 use Rattle.film_drawing.specs.Promise.{DrawPromised}
 use Rattle.film_drawing.specs.Demand3.{Passes, draw, over, called, Has, size_of, Alike, SameBand, Drawing, Demand3}
 use Rattle.film_drawing.specs.declared.Drawn.{Drawn}
@@ -17,7 +19,7 @@ demand3 = record { calls = of_the_calls; alike = same_band }
 -- ---- its last sentence of two draws, each by itself
 
 -- a call out of a list of its own
-alone : (sheet load : List ℕ) (page b : ℕ) (held left : List ℕ) (r : Drawn) → DrawPromised sheet load page b held r left
+alone : (sheet load : List ℕ) (page b : ℕ) (held left : List ℕ) (r : Result Drawn Refusal) → DrawPromised sheet load page b held r left
     → Has sheet page b → size_of sheet page b ≤ length held → Drawing sheet load (record { page = page; b = b; held = held; answer = r; left = left })
 alone sheet load page b held left r p h le =
     record {
@@ -34,7 +36,7 @@ alone sheet load page b held left r p h le =
 pub alike_draws : (one two load : List ℕ) → Passes one load → Passes two load
     → (page b : ℕ) → Has one page b → Alike one two page b
     → (page' b' : ℕ) → Has one page' b' → (page' ≡ page → b' ≡ b → ⊥)
-    → (held₁ held₂ left₁ left₂ : List ℕ) (r₁ r₂ : Drawn)
+    → (held₁ held₂ left₁ left₂ : List ℕ) (r₁ r₂ : Result Drawn Refusal)
     → DrawPromised one load page' b' held₁ r₁ left₁ → DrawPromised two load page' b' held₂ r₂ left₂
     → size_of one page' b' ≤ length held₁ → size_of one page' b' ≤ length held₂
     → SameBand (size_of one page' b') r₁ r₂ left₁ left₂

@@ -1,15 +1,14 @@
 -- Demand 3, as one statement: of any list of draw calls on a sheet and load that the check passes, and of two such sheets that are alike but for
 -- the commands of one band.
-use Rattle.std.specs.Prelude.{◌≡◌, Bool, true, false, cond, ℕ, suc, ◌*◌, ◌≤◌, ◌<◌, eqb, length, take, drop}
+use Rattle.std.specs.Prelude.{◌≡◌, Bool, true, false, cond, Result, Ok, ℕ, suc, ◌*◌, ◌≤◌, ◌<◌, eqb, length, take, drop}
 use mathlib.Core.List.{List, [], ◌∷◌, ◌++◌, Memᴰ, map}
 use Rattle.refusal.specs.Answers.{Answer, given, refused}
+use Rattle.refusal.specs.declared.Refusal.{Refusal}
 use Rattle.row.specs.Counts.{ones_of, joined, total}
 use Rattle.film_words.specs.Words.{words}
 use Rattle.film_herald.specs.Herald.{herald_of, page_count, band_count, band_start, band_rows, band_bytes, row_length}
 use Rattle.film_layout.specs.Layout.{span, reach}
 use Rattle.film_check.specs.Promise.{CheckPromised}
-use Rattle.film_check.specs.declared.Checked.{Checked}
-use Rattle.film_check.specs.declared.Checked.TheVariants.{Pages}
 use Rattle.film_drawing.specs.Picture.{page_at, picture}
 use Rattle.film_drawing.specs.Promise.{Counts, done, drawn_as, DrawPromised}
 use Rattle.film_drawing.specs.declared.Drawn.{Drawn}
@@ -18,10 +17,10 @@ use Rattle.film_drawing.specs.declared.Drawn.{Drawn}
 
 -- the check was asked of them, and its answer is a number of pages. Of the answer nothing is said but that it meets check's promise.
 pub record Passes (sheet load : List ℕ) : Type 0 where
-  pub answer : Checked
+  pub answer : Result ℕ Refusal
   pub promised : CheckPromised sheet load answer
   pub count : ℕ
-  pub is : answer ≡ Pages count
+  pub is : answer ≡ Ok count
 
 -- ---- draw calls, one after another, on buffers that may serve again
 
@@ -43,7 +42,7 @@ pub record Call : Type 0 where
   pub page : ℕ
   pub b : ℕ
   pub held : List ℕ
-  pub answer : Drawn
+  pub answer : Result Drawn Refusal
   pub left : List ℕ
 
 -- The calls that a list of steps makes, in their order. Of a call's outcome nothing is said but that it meets draw's promise.
@@ -51,7 +50,7 @@ pub data Made (sheet load : List ℕ) : Buffers → List Step → List Call → 
   over : {bs : Buffers} → Made sheet load bs [] []
   wrote : {bs : Buffers} {i : ℕ} {bytes : List ℕ} {steps : List Step} {calls : List Call}
       → Made sheet load (writing i bytes bs) steps calls → Made sheet load bs (write i bytes ∷ steps) calls
-  called : {bs : Buffers} {page b i : ℕ} {steps : List Step} {calls : List Call} (r : Drawn) (left : List ℕ)
+  called : {bs : Buffers} {page b i : ℕ} {steps : List Step} {calls : List Call} (r : Result Drawn Refusal) (left : List ℕ)
       → DrawPromised sheet load page b (bs i) r left
       → Made sheet load (writing i left bs) steps calls
       → Made sheet load bs (draw page b i ∷ steps) (record { page = page; b = b; held = bs i; answer = r; left = left } ∷ calls)
@@ -138,7 +137,7 @@ pub record Alike (one two : List ℕ) (page b : ℕ) : Type 0 where
 
 -- two drawings of a band of this size, each into a buffer of its own, have the same rows and dots; the first drew, and so, with the same answer,
 -- did the second
-pub record SameBand (size : ℕ) (r₁ r₂ : Drawn) (left₁ left₂ : List ℕ) : Type 0 where
+pub record SameBand (size : ℕ) (r₁ r₂ : Result Drawn Refusal) (left₁ left₂ : List ℕ) : Type 0 where
   pub first_drew : is_done (drawn_as r₁) ≡ true
   pub same_answer : drawn_as r₁ ≡ drawn_as r₂
   pub same_rows : take size left₁ ≡ take size left₂

@@ -1,17 +1,16 @@
 -- Laws of the quotient rounded up and of the place of an edge. Assumes nothing.
 use mathlib.Core.Path.{◌≡◌, refl, sym, ap, ◌∙◌}
-use mathlib.Core.Bool.{true, false, false≢true}
 use Prim.Native.Nat.{ℕ, zero, suc, ◌+◌, ◌-◌, ◌*◌, ◌/◌, ◌%◌, ◌^◌, ◌≤◌, ◌<◌, zero-le}
 use native.Mathlib.Nat.{div-le_self, div-add-mod', mod-lt, mul-le-mul, add-mul, add-mul-div_right, div-eq_of_lt, div-le_of_le-mul, div-one, add-zero, mul_comm, le_refl}
 use native.Mathlib.Omega.{arith}
 use native.Mathlib.Decide.{dec_le}
-use borrow.Author.Tests.{ltb-false}
 use lib.Dec.{T}
 use lib.IntN.{ℤ, pos, negsuc, neg_ℤ, nat_abs, ◌+ℤ◌, ◌-ℤ◌, ◌*ℤ◌}
-use lib.Signed.{mag, non_neg, quot_z, lt_z}
+use lib.Signed.{mag, non_neg}
 use mir.Syntax.{w64}
 use mir.Val.{SFits, Fits, to_z, of_z}
 use mir.Facts.{to_z_pos, to_z-of_z}
+use Rattle.std.specs.Int.{int_div_euclid}
 use Rattle.film_imaging.specs.Masks.{edge}
 use Rattle.film_imaging.proofs.Trapezoid.{diff_le, diff_lt, edge_nat}
 use Rattle.film_edges.specs.Edges.{ceil_z, edge_at}
@@ -27,6 +26,10 @@ diff_past a (suc g) = diff_lt a (a + suc g) (omega arith) ∙ ap negsuc (omega a
 mag_neg : (m : ℕ) → mag (neg_ℤ (pos m)) ≤ m
 mag_neg zero = zero-le
 mag_neg (suc m) = omega arith
+
+mag_minus : (x : ℤ) → mag (neg_ℤ x) ≤ suc (mag x)
+mag_minus (pos v) = omega (arith, mag_neg v)
+mag_minus (negsuc v) = omega arith
 
 pub mag_diff : (a b k : ℕ) → a < k → b < k → mag (pos a -ℤ pos b) < k
 mag_diff a b k l m = go (dec_le b a)
@@ -52,30 +55,24 @@ mag_add a (negsuc v) = go (dec_le (suc v) a)
     go (yes h) = rw (diff_le a (suc v) h) (omega arith)
     go (no h) = rw (diff_lt a (suc v) (omega arith)) (omega arith)
 
--- ---- the quotient toward zero
+-- ---- the negated quotient of the negated number
 
--- a dividend above zero, with n - 1 added
-pub mag_up : (x : ℤ) (n : ℕ) → mag x < 2 ^ 49 → 1 ≤ n → n < 2 ^ 16 → lt_z (pos 0) x ≡ true → mag (x +ℤ (pos n -ℤ pos 1)) < 2 ^ 62
-mag_up (pos v) n h g k p = rw (diff_le n 1 g) (omega arith)
-mag_up (negsuc v) n h g k p = absurd (false≢true p)
+negated : (x : ℤ) → pos 0 -ℤ x ≡ neg_ℤ x
+negated (pos v) = let z : v ≡ 0 + v = omega arith in ap (λ (g : ℕ). pos 0 -ℤ pos g) z ∙ diff_past 0 v
+negated (negsuc v) = ap pos (omega arith)
 
-pub quot_fits : (x : ℤ) (n : ℕ) → mag x < 2 ^ 62 → SFits w64 (quot_z x (pos n))
-quot_fits (pos v) n h = record { sfits = omega (arith, div-le_self v n) }
-quot_fits (negsuc v) n h = record { sfits = omega (arith, mag_neg (suc v / n), div-le_self (suc v) n) }
-
--- of a number above zero it is rounded up after n - 1 was added, of another as it stands
-pub ceil_up : (x : ℤ) (n : ℕ) → lt_z (pos 0) x ≡ true → 1 ≤ n → quot_z (x +ℤ (pos n -ℤ pos 1)) (pos n) ≡ ceil_z x n
+-- that quotient is rounded down, and so its negation up
+ceil_negated : (x : ℤ) (n : ℕ) → 1 ≤ n → neg_ℤ (int_div_euclid (neg_ℤ x) (pos n)) ≡ ceil_z x n
 unfolding ceil_z
-ceil_up (pos v) n h g = rw (diff_le n 1 g)
-ceil_up (negsuc v) n h g = absurd (false≢true h)
-
-pub ceil_down : (x : ℤ) (n : ℕ) → lt_z (pos 0) x ≡ false → 1 ≤ n → quot_z x (pos n) ≡ ceil_z x n
-unfolding ceil_z
-ceil_down (pos v) n h g =
-    let z : v ≤ 0 = ltb-false 0 v h in
-    let l : v + (n - 1) < n = omega arith in
-    ap pos (omega (arith, div-le_self v n, div-eq_of_lt l))
-ceil_down (negsuc v) n h g = refl
+ceil_negated (pos zero) n h =
+    let small : n - 1 < n = omega arith in
+    let none : 0 < n = omega arith in
+    let t : 0 + (n - 1) ≡ n - 1 = omega arith in
+    rw (div-eq_of_lt none) (ap pos (sym (rw t (div-eq_of_lt small))))
+ceil_negated (pos (suc v)) n h =
+    let t : suc v + (n - 1) ≡ v + 1 * n = omega arith in
+    ap pos (sym (rw (t, add-mul-div_right v 1 h) (omega arith)))
+ceil_negated (negsuc v) n h = refl
 
 -- ---- as the code computes them: no step leaves an i64, so each is the number that it stands for
 
@@ -83,25 +80,17 @@ ceil_down (negsuc v) n h g = refl
 known : (m : ℕ) → m < 2 ^ 32 → to_z w64 m ≡ pos m
 known m h = to_z_pos w64 (omega arith)
 
-module _ (x : ℤ) (n : ℕ) (x_fits : SFits w64 x) (small : mag x < 2 ^ 49) (some : 1 ≤ n) (few : n < 2 ^ 16) where
-  x_is : to_z w64 (of_z w64 x) ≡ x
-  x_is = to_z-of_z {w = w64} x_fits
-
-  less_fits : SFits w64 (pos n -ℤ pos 1)
-  less_fits = rw (diff_le n 1 some) (record { sfits = omega arith })
-
-  pub up_computed : lt_z (pos 0) (to_z w64 (of_z w64 x)) ≡ true
-      → to_z w64 (of_z w64 (quot_z (to_z w64 (of_z w64 (to_z w64 (of_z w64 x) +ℤ to_z w64 (of_z w64 (to_z w64 n -ℤ pos 1))))) (to_z w64 n))) ≡ ceil_z x n
-  up_computed h =
-      let above : lt_z (pos 0) x ≡ true = rw x_is at h in
-      let sum_small : mag (x +ℤ (pos n -ℤ pos 1)) < 2 ^ 62 = mag_up x n small some few above in
-      let sum_fits : SFits w64 (x +ℤ (pos n -ℤ pos 1)) = record { sfits = omega (arith, sum_small) } in
-      rw (known n (omega arith), x_is, to_z-of_z {w = w64} less_fits, to_z-of_z {w = w64} sum_fits)
-      (to_z-of_z {w = w64} (quot_fits (x +ℤ (pos n -ℤ pos 1)) n sum_small) ∙ ceil_up x n above some)
-
-  pub down_computed : lt_z (pos 0) (to_z w64 (of_z w64 x)) ≡ false → to_z w64 (of_z w64 (quot_z (to_z w64 (of_z w64 x)) (to_z w64 n))) ≡ ceil_z x n
-  down_computed h =
-      rw (known n (omega arith), x_is) (to_z-of_z {w = w64} (quot_fits x n (omega arith)) ∙ ceil_down x n (rw x_is at h) some)
+-- q is the quotient
+pub ceil_computed : (x : ℤ) (n : ℕ) (q : ℤ) → SFits w64 x → mag x < 2 ^ 49 → 1 ≤ n → n < 2 ^ 16 → SFits w64 q
+    → q ≡ int_div_euclid (to_z w64 (of_z w64 (pos 0 -ℤ to_z w64 (of_z w64 x)))) (to_z w64 n)
+    → to_z w64 (of_z w64 (pos 0 -ℤ to_z w64 (of_z w64 q))) ≡ ceil_z x n
+ceil_computed x n q x_fits small some few q_fits e =
+    let minus_small : mag (neg_ℤ x) ≤ suc (mag x) = mag_minus x in
+    let minus_fits : SFits w64 (neg_ℤ x) = record { sfits = omega (arith, minus_small) } in
+    let q_is : neg_ℤ q ≡ ceil_z x n =
+    ap neg_ℤ (e ∙ rw (known n (omega arith), to_z-of_z {w = w64} x_fits, negated x, to_z-of_z {w = w64} minus_fits) refl) ∙ ceil_negated x n some in
+    let fits : SFits w64 (ceil_z x n) = record { sfits = omega (arith, mag_ceil x n) } in
+    rw (to_z-of_z {w = w64} q_fits, negated q, q_is) (to_z-of_z {w = w64} fits)
 
 -- ---- the place of an edge
 

@@ -5,14 +5,13 @@ ghost use Rattle.std.specs.Prelude.{◌≡◌, ◌^◌, ◌<◌, ◌≤◌};
 ghost use Rattle.std.specs.Int.Signed.{mag};
 ghost use Rattle.film_edges.specs.Edges.{ceil_z, edge_at};
 
-// x / n, rounded up. The language's quotient goes toward zero, which is up where x is negative. The bound is above every slope times its lines.
-#[tactic(auto, using(crate::proofs::Edges::up_computed, crate::proofs::Edges::down_computed))]
+// x / n, rounded up: the quotient of -x goes down, and so its negation up. The bound is above every slope times its lines.
+#[tactic(auto, using(crate::proofs::Edges::ceil_computed))]
 fn ceil_signed(x: i64, n: u16) -> i64
     requires { (mag x < 2 ^ 49) × (1 ≤ n) }
     ensures { result ≡ ceil_z x n }
 {
-    let m = n as i64;
-    if 0 < x { (x + (m - 1)) / m } else { x / m }
+    -(-x).div_euclid(n as i64)
 }
 
 // The place of an edge d lines after its first, rounded up: `a` on the first line, `z` n lines after it. The difference is signed. Over no lines, where
@@ -26,6 +25,5 @@ pub fn edge_at(a: u32, z: u32, n: u16, d: u16) -> i64
         return first;
     }
     let lean = last - first;
-    let moved = ceil_signed(lean * d as i64, n);
-    first + moved
+    first + ceil_signed(lean * d as i64, n)
 }

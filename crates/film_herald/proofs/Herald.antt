@@ -1,14 +1,28 @@
 -- Laws of the herald's sizes. Assumes nothing.
-use mathlib.Core.Path.{◌≡◌}
+use mathlib.Core.Path.{◌≡◌, refl}
 use mathlib.Core.List.{List}
-use Prim.Native.Nat.{ℕ, suc, ◌+◌, ◌*◌, ◌-◌, ◌/◌, ◌<◌, ◌≤◌}
-use native.Mathlib.Nat.{div-le_self, div-mul-le_self, mul-le-mul_right, mul_comm, suc-mul}
+use Prim.Native.Nat.{ℕ, zero, suc, ◌+◌, ◌*◌, ◌-◌, ◌/◌, ◌%◌, ◌<◌, ◌≤◌, min}
+use native.Mathlib.Nat.{add-mul, add-zero, div-le_self, div-mul-le_self, mul-le-mul_right, mul_comm, suc-mul}
 use native.Mathlib.Omega.{arith}
+use Rattle.std.proofs.lemmas.Nat.{div-mul-add, div-add-mod', mod_below}
 use Rattle.refusal.specs.Answers.{fine}
-use Rattle.film_words.specs.Words.{words}
+use Rattle.film_words.specs.Words.{words, ceil_div}
 use Rattle.film_herald.specs.Herald.{Herald, herald_of, band_count, band_start, band_rows, whole_film, band_bytes, row_length}
 use Rattle.film_herald.specs.Refusals.{herald_test}
 use Rattle.film_herald.proofs.Refusals.{herald_fine}
+
+-- the library's quotient, rounded up, is that of the bands of a page and of the bytes of a row
+pub rounded_up : (n d : ℕ) → 0 < d → n / d + min 1 (n % d) ≡ ceil_div n d
+rounded_up n d z = go (n % d) refl
+  where
+    go : (r : ℕ) → n % d ≡ r → n / d + min 1 r ≡ ceil_div n d
+    go zero e =
+        let whole : n + (d - 1) ≡ n / d * d + (d - 1) = omega (arith, div-add-mod' n d) in
+        rw (whole, div-mul-add (n / d) d (d - 1) (omega arith)) (add-zero (n / d))
+    go (suc k) e =
+        let more : n + (d - 1) ≡ (n / d + 1) * d + k = omega (arith, div-add-mod' n d, add-mul (n / d) 1 d) in
+        let low : k < d = omega (arith, mod_below n d z) in
+        rw (more, div-mul-add (n / d + 1) d k low) (omega arith)
 
 -- a page has no more bands than the page and a band have lines
 few_bands : (h : Herald) → band_count h ≤ h.image_s_size + (h.band_s_size - 1)

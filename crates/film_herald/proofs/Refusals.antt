@@ -11,11 +11,15 @@ use Rattle.refusal.specs.Answers.{and_then, Verdict, fine}
 use Rattle.refusal.specs.Tables.{Line, refuse, first}
 use Rattle.refusal.proofs.Tables.{line_no, first-append}
 use Rattle.film_words.specs.Words.{words}
+use Rattle.film_words.proofs.Words.{length-words}
 use Rattle.film_words.specs.Load.{load_count}
 use Rattle.film_herald.specs.Herald.{herald_of, page_count, row_length}
 use Rattle.film_herald.specs.Refusals.{outside, length_table, password_table, size_table, load_table, page_table, herald_table, herald_test}
 
--- ---- a table read line by line, by calls of `refuse_if`
+-- for the lines' tests: how many words a file has
+pub ruleset line_tests = (length-words)
+
+-- ---- a table read line by line
 
 -- v is what the lines a give
 pub record Gives (a : List Line) (v : Verdict) : Type 0 where

@@ -2,41 +2,37 @@
 #![tactic(auto)]
 
 ghost use Rattle.std.specs.Prelude.{◌≡◌, [], ◌∷◌};
-ghost use Rattle.refusal.specs.Answers.{and_then};
 ghost use Rattle.refusal.specs.Tables.{refuse, first};
+ghost use Rattle.refusal.specs.Faults.{number_of};
 ghost use Rattle.refusal.specs.Code.{tested_as};
 ghost use Rattle.film_words.specs.Words.{words};
 ghost use Rattle.film_herald.specs.Herald.{herald_of, band_count, row_length};
 ghost use Rattle.film_herald.specs.Refusals.{herald_test, outside};
 
 use film_words::{long, word};
-use refusal::{Refusal, Tested};
+use refusal::{Fault, Refusal};
 
 // Whether x is below `low` or above `high`.
 fn is_outside(low: u16, high: u16, x: u16) -> bool
     ensures { result ≡ outside low high x }
 {
-    x < low || high < x
+    !(low..=high).contains(&x)
 }
 
-// The next line of the table: a refusal that came before it stays.
-fn refuse_if(so_far: Tested, number: u8, place: usize, when: bool) -> Tested
-    ensures { tested_as result ≡ and_then (tested_as so_far) (λ u. first (refuse number place when ∷ [])) }
+// A line of the table.
+#[tactic(auto, unfolding(refusal::specs::Tables::first))]
+fn refuse_if(when: bool, fault: Fault, place: usize) -> Result<(), Refusal>
+    ensures { tested_as result ≡ first (refuse (number_of fault) place when ∷ []) }
 {
-    match so_far {
-        Tested::Refused(r) => Tested::Refused(r),
-        Tested::Fine => {
-            if when {
-                Tested::Refused(Refusal { number, place })
-            } else {
-                Tested::Fine
-            }
-        }
+    if when {
+        return Err(fault.at(place));
     }
+    Ok(())
 }
 
 // The test of herald, load and page count: the table of the refusals 1 to 4 and of a page count of 0, line by line.
-pub fn test_herald(sheet: &[u8], load: &[u8]) -> Tested
+#[tactic(auto, using(crate::proofs::Refusals::line_tests), unfolding(refusal::specs::Tables::first, crate::specs::Refusals::herald_test, crate::specs::Refusals::herald_table, crate::specs::Refusals::length_table, crate::specs::Refusals::password_table, crate::specs::Refusals::size_table, crate::specs::Refusals::load_table, crate::specs::Refusals::page_table, film_words::specs::Load::load_count))]
+pub fn test_herald(sheet: &[u8], load: &[u8]) -> Result<(), Refusal>
     ensures { tested_as result ≡ herald_test sheet.now load.now }
 {
     let lines = word(sheet, 5);
@@ -45,32 +41,33 @@ pub fn test_herald(sheet: &[u8], load: &[u8]) -> Tested
     let bytes = band as usize * row_bytes(dots);
     let count = long(load, 0);
     let claimed = 2 + count as usize;
-    let f = refuse_if(Tested::Fine, 1, 0, sheet.len() % 2 == 1);
-    let f = refuse_if(f, 1, 0, load.len() % 2 == 1);
-    let f = refuse_if(f, 1, 0, sheet.len() > 16777216);
-    let f = refuse_if(f, 1, 0, load.len() > 16777216);
-    let f = refuse_if(f, 2, 0, sheet.len() / 2 < 12);
-    let f = refuse_if(f, 2, 0, word(sheet, 0) != 0xAAAA);
-    let f = refuse_if(f, 2, 1, word(sheet, 1) != 1);
-    let f = refuse_if(f, 3, 5, is_outside(1, 32768, lines));
-    let f = refuse_if(f, 3, 6, is_outside(1, 32768, dots));
-    let f = refuse_if(f, 3, 7, is_outside(1, lines, band));
-    let f = refuse_if(f, 3, 10, word(sheet, 10) < 1);
-    let f = refuse_if(f, 3, 7, bytes > 65536);
-    let f = refuse_if(f, 4, 8, load.len() / 2 < 2);
-    let f = refuse_if(f, 4, 8, claimed != load.len() / 2);
-    let f = refuse_if(f, 4, 8, count > long(sheet, 8));
-    refuse_if(f, 5, 11, word(sheet, 11) == 0)
+    refuse_if(sheet.len() % 2 == 1, Fault::Length, 0)?;
+    refuse_if(load.len() % 2 == 1, Fault::Length, 0)?;
+    refuse_if(sheet.len() > 16777216, Fault::Length, 0)?;
+    refuse_if(load.len() > 16777216, Fault::Length, 0)?;
+    refuse_if(sheet.len() / 2 < 12, Fault::Password, 0)?;
+    refuse_if(word(sheet, 0) != 0xAAAA, Fault::Password, 0)?;
+    refuse_if(word(sheet, 1) != 1, Fault::Password, 1)?;
+    refuse_if(is_outside(1, 32768, lines), Fault::Size, 5)?;
+    refuse_if(is_outside(1, 32768, dots), Fault::Size, 6)?;
+    refuse_if(is_outside(1, lines, band), Fault::Size, 7)?;
+    refuse_if(word(sheet, 10) < 1, Fault::Size, 10)?;
+    refuse_if(bytes > 65536, Fault::Size, 7)?;
+    refuse_if(load.len() / 2 < 2, Fault::LoadCount, 8)?;
+    refuse_if(claimed != load.len() / 2, Fault::LoadCount, 8)?;
+    refuse_if(count > long(sheet, 8), Fault::LoadCount, 8)?;
+    refuse_if(word(sheet, 11) == 0, Fault::PageOrBandCount, 11)
 }
 
 // The bytes of a row of `width` dots.
 pub fn row_bytes(width: u16) -> usize
     ensures { result ≡ row_length width }
 {
-    2 * ((width as usize + 15) / 16)
+    2 * (width as usize).div_ceil(16)
 }
 
 // How many bands a page has; 0 where the herald's bands have no lines.
+#[tactic(auto, using(crate::proofs::Herald::rounded_up), unfolding(crate::specs::Herald::band_count))]
 pub fn bands_per_page(sheet: &[u8]) -> usize
     ensures { result ≡ band_count (herald_of (words sheet.now)) }
 {
@@ -79,5 +76,5 @@ pub fn bands_per_page(sheet: &[u8]) -> usize
     if band == 0 {
         return 0;
     }
-    (lines + (band - 1)) / band
+    lines.div_ceil(band)
 }

@@ -4,6 +4,7 @@ use mathlib.Core.List.{List}
 use Prim.Native.Nat.{ℕ, suc, ◌-◌, ◌≤◌}
 use native.Mathlib.Omega.{arith}
 use lib.ListN.{length}
+use Rattle.std.proofs.Common.{Result, Ok, Err}
 use Rattle.refusal.specs.Answers.{Answer, given, refused}
 use Rattle.refusal.specs.Code.{refused_as}
 use Rattle.refusal.specs.declared.Refusal.{Refusal}
@@ -33,38 +34,38 @@ pub page_first : (sheet : List ℕ) (m k : ℕ) (w : Walk) → m ≡ band_count 
 page_first sheet m k w c e = record { count = c; is = sym (ap (λ (y : ℕ). reach_page k (to_come sheet y w)) c ∙ ap (reach_page k) e) }
 
 -- one step from walk w
-module _ {sheet : List ℕ} {m k left : ℕ} {w : Walk} (i : PageTo sheet m k left w) {r : code.Node} (x : Stepped sheet m w r) where
+module _ {sheet : List ℕ} {m k left : ℕ} {w : Walk} (i : PageTo sheet m k left w) {r : Result code.Node Refusal} (x : Stepped sheet m w r) where
   -- at node s
-  page_at_lem : (j : ℕ) (s : code.Node) → left ≡ j → r ≡ s → page_sought sheet k ≡ reach_page j (node_as sheet m s)
+  page_at_lem : (j : ℕ) (s : Result code.Node Refusal) → left ≡ j → r ≡ s → page_sought sheet k ≡ reach_page j (node_as sheet m s)
   page_at_lem j s l e = i.is ∙ ap (reach_page left) (met s x e).0 ∙ ap (λ (y : ℕ). reach_page y (node_as sheet m s)) l
 
   -- this page
-  pub page_this : (v : Walk) → r ≡ node.Page v → left ≡ 0
+  pub page_this : (v : Walk) → r ≡ Ok (node.Page v) → left ≡ 0
       → given (record { window = whole_film (herald_of (words sheet)); bands = to_come sheet (band_count (herald_of (words sheet))) v }) ≡ page_sought sheet k
   unfolding reach_page
   page_this v e z =
       let after : ℕ → Answer Page = λ y. given (record { window = whole_film (herald_of (words sheet)); bands = to_come sheet y v }) in
-      sym (page_at_lem 0 (node.Page v) z e ∙ ap after i.count)
+      sym (page_at_lem 0 (Ok (node.Page v)) z e ∙ ap after i.count)
 
   -- a page before it
-  pub page_next : (v : Walk) → r ≡ node.Page v → (left ≡ 0 → ⊥) → PageTo sheet m k (left - 1) v
+  pub page_next : (v : Walk) → r ≡ Ok (node.Page v) → (left ≡ 0 → ⊥) → PageTo sheet m k (left - 1) v
   unfolding reach_page
-  page_next v e z = let s : left ≡ suc (left - 1) = omega arith in record { count = i.count; is = page_at_lem (suc (left - 1)) (node.Page v) s e }
+  page_next v e z = let s : left ≡ suc (left - 1) = omega arith in record { count = i.count; is = page_at_lem (suc (left - 1)) (Ok (node.Page v)) s e }
 
   -- a band of a page before it
-  pub page_band : (from to : ℕ) (v : Walk) → r ≡ node.Band from to v → PageTo sheet m k left v
+  pub page_band : (from to : ℕ) (v : Walk) → r ≡ Ok (node.Band from to v) → PageTo sheet m k left v
   unfolding reach_page
-  page_band from to v e = record { count = i.count; is = page_at_lem left (node.Band from to v) refl e }
+  page_band from to v e = record { count = i.count; is = page_at_lem left (Ok (node.Band from to v)) refl e }
 
   -- the pages end before it
-  pub page_none : (p : ℕ) → r ≡ node.End p → refused 11 0 ≡ page_sought sheet k
+  pub page_none : (p : ℕ) → r ≡ Ok (node.End p) → refused 11 0 ≡ page_sought sheet k
   unfolding reach_page
-  page_none p e = sym (page_at_lem left (node.End p) refl e)
+  page_none p e = sym (page_at_lem left (Ok (node.End p)) refl e)
 
   -- a count before it is wrong or missing
-  pub page_refused : (y : Refusal) → r ≡ node.Refused y → refused_as y ≡ page_sought sheet k
+  pub page_refused : (y : Refusal) → r ≡ Err y → refused_as y ≡ page_sought sheet k
   unfolding reach_page
-  page_refused y e = sym (page_at_lem left (node.Refused y) refl e)
+  page_refused y e = sym (page_at_lem left (Err y) refl e)
 
 -- ---- to band k of what is to come from walk w₀, where a page has the bands that the herald says
 
@@ -81,33 +82,33 @@ pub band_first : (sheet : List ℕ) (w₀ : Walk) (m k : ℕ) → m ≡ band_cou
 band_first sheet w₀ m k c = record { is = sym (ap (λ (y : ℕ). reach k (to_come sheet y w₀)) c) }
 
 -- one step from walk w
-module _ {sheet : List ℕ} {w₀ : Walk} {m k left : ℕ} {w : Walk} (i : BandTo sheet w₀ m k left w) {r : code.Node} (x : Stepped sheet m w r) where
+module _ {sheet : List ℕ} {w₀ : Walk} {m k left : ℕ} {w : Walk} (i : BandTo sheet w₀ m k left w) {r : Result code.Node Refusal} (x : Stepped sheet m w r) where
   -- at node s
-  band_at : (j : ℕ) (s : code.Node) → left ≡ j → r ≡ s → band_sought sheet w₀ k ≡ reach j (node_as sheet m s)
+  band_at : (j : ℕ) (s : Result code.Node Refusal) → left ≡ j → r ≡ s → band_sought sheet w₀ k ≡ reach j (node_as sheet m s)
   band_at j s l e = i.is ∙ ap (reach left) (met s x e).0 ∙ ap (λ (y : ℕ). reach y (node_as sheet m s)) l
 
   -- this band, which lies in the sheet
-  pub band_this : (from to : ℕ) (v : Walk) → r ≡ node.Band from to v → left ≡ 0
+  pub band_this : (from to : ℕ) (v : Walk) → r ≡ Ok (node.Band from to v) → left ≡ 0
       → (given (span_of sheet from to) ≡ band_sought sheet w₀ k) × ((from ≤ to) × (to ≤ length (words sheet)))
   unfolding reach
-  band_this from to v e z = (sym (band_at 0 (node.Band from to v) z e), ((met (node.Band from to v) x e).1.1, (met (node.Band from to v) x e).1.2))
+  band_this from to v e z = (sym (band_at 0 (Ok (node.Band from to v)) z e), ((met (Ok (node.Band from to v)) x e).1.1, (met (Ok (node.Band from to v)) x e).1.2))
 
   -- a band before it
-  pub band_next : (from to : ℕ) (v : Walk) → r ≡ node.Band from to v → (left ≡ 0 → ⊥) → BandTo sheet w₀ m k (left - 1) v
+  pub band_next : (from to : ℕ) (v : Walk) → r ≡ Ok (node.Band from to v) → (left ≡ 0 → ⊥) → BandTo sheet w₀ m k (left - 1) v
   unfolding reach
-  band_next from to v e z = let s : left ≡ suc (left - 1) = omega arith in record { is = band_at (suc (left - 1)) (node.Band from to v) s e }
+  band_next from to v e z = let s : left ≡ suc (left - 1) = omega arith in record { is = band_at (suc (left - 1)) (Ok (node.Band from to v)) s e }
 
   -- the next page begins before it
-  pub band_page : (v : Walk) → r ≡ node.Page v → refused 11 0 ≡ band_sought sheet w₀ k
+  pub band_page : (v : Walk) → r ≡ Ok (node.Page v) → refused 11 0 ≡ band_sought sheet w₀ k
   unfolding reach
-  band_page v e = sym (band_at left (node.Page v) refl e)
+  band_page v e = sym (band_at left (Ok (node.Page v)) refl e)
 
   -- the pages end before it
-  pub band_none : (p : ℕ) → r ≡ node.End p → refused 11 0 ≡ band_sought sheet w₀ k
+  pub band_none : (p : ℕ) → r ≡ Ok (node.End p) → refused 11 0 ≡ band_sought sheet w₀ k
   unfolding reach
-  band_none p e = sym (band_at left (node.End p) refl e)
+  band_none p e = sym (band_at left (Ok (node.End p)) refl e)
 
   -- a count before it is wrong or missing
-  pub band_refused : (y : Refusal) → r ≡ node.Refused y → refused_as y ≡ band_sought sheet w₀ k
+  pub band_refused : (y : Refusal) → r ≡ Err y → refused_as y ≡ band_sought sheet w₀ k
   unfolding reach
-  band_refused y e = sym (band_at left (node.Refused y) refl e)
+  band_refused y e = sym (band_at left (Err y) refl e)

@@ -7,18 +7,30 @@ use borrow.Author.Tests.{le-leb, lt-leb, eq-eqb, ne_eqb}
 use lib.ListN.{length, drop, length-drop, drop_of_length-le}
 use lib.Seq.{drop-cons, drop-drop}
 use Rattle.refusal.specs.Answers.{given, refused}
+use Rattle.refusal.specs.Code.{refused_as}
+use Rattle.refusal.specs.declared.Refusal.{Refusal}
+use Rattle.std.proofs.Common.{Result, Err}
 use Rattle.film_words.specs.Words.{words, at}
+use Rattle.film_words.proofs.Words.{length-words}
 use Rattle.film_words.proofs.Parts.{part_taken}
 use Rattle.film_herald.specs.Herald.{herald_of, page_count, band_count, whole_film}
 use Rattle.film_layout.specs.Layout.{span, page_head, band, ends, bands_then, pages_from, layout_of}
 use Rattle.film_layout.specs.Walks.{to_come, span_of, node_as, Onward, Stepped}
-use Rattle.film_layout.specs.declared.Walk.{Walk}
 use Rattle.film_layout.specs.declared.Node as code
+use Rattle.film_layout.specs.declared.Walk.{Walk}
 
--- what `next` promises of its answer r, at the node s that a match found
-pub met : {sheet : List ℕ} {m : ℕ} {w : Walk} {r : code.Node} (s : code.Node) → Stepped sheet m w r → r ≡ s
+-- how many words a file has
+pub ruleset lengths = (length-words)
+
+-- what `next` promises of its answer r, which is s
+pub met : {sheet : List ℕ} {m : ℕ} {w : Walk} {r : Result code.Node Refusal} (s : Result code.Node Refusal) → Stepped sheet m w r → r ≡ s
     → (to_come sheet m w ≡ node_as sheet m s) × Onward sheet w s
 met {sheet} {m} {w} s x e = (sym x.is ∙ ap (node_as sheet m) e, subst (Onward sheet w) e x.on)
+
+-- an answer r that is refusal e
+pub stopped : {sheet : List ℕ} {m : ℕ} {w : Walk} {r : Result code.Node Refusal} {e : Refusal} → r ≡ Err e → ends (refused_as e) ≡ to_come sheet m w
+    → Stepped sheet m w r
+stopped {sheet} {m} {w} i t = let P : Result code.Node Refusal → Type 0 = Stepped sheet m w in subst P (sym i) (record { is = t; on = tt })
 
 -- the walk at place p
 abbrev pub walk : (pages bands p : ℕ) → Walk

@@ -1,56 +1,36 @@
 // The walk over the pages and bands of a sheet, by value; and the way to one page and to one band of it.
 #![tactic(auto)]
 
-ghost use Rattle.std.specs.Prelude.{◌≡◌};
-ghost use Rattle.film_words.specs.Words.{words};
+ghost use Rattle.std.specs.Prelude.{◌≡◌, ◌≤◌, ◌<◌, length, MatchResult};
+ghost use Rattle.refusal.specs.declared.Fault.TheVariants.{Cut};
+ghost use Rattle.film_words.specs.Words.{words, at};
 ghost use Rattle.film_herald.specs.Herald.{herald_of, band_count};
 ghost use Rattle.film_layout.specs.Layout.{layout_of, reach_page, reach};
 ghost use Rattle.film_layout.specs.Walks.{to_come, Stepped, opened_as, found_as, InSheet};
 
 use film_herald::bands_per_page;
 use film_words::word;
-use refusal::Refusal;
-
-// A count that is missing, or a band that runs past the sheet; a page's count that is not the herald's; no such page or band.
-const MISSING: u8 = 6;
-
-const WRONG_COUNT: u8 = 5;
-
-const NO_BAND: u8 = 11;
+use refusal::{Fault, Refusal};
 
 // At place `at` `bands` bands of a page are to come, and then `pages` pages.
-#[derive(Clone, Copy)]
+#[derive(Clone, Copy, Debug, PartialEq, Eq)]
 pub struct Walk {
     pub at: usize,
     pub bands: usize,
     pub pages: usize,
 }
 
-// What stands there: a page's count; a band's commands, from place `from` up to, not including, `end`; the end of the pages; or a count that is
-// wrong or missing. The walk goes on after the first two.
-#[derive(Clone, Copy)]
+// What stands there: a page's count; a band's commands, from place `from` up to, not including, `end`; or the end of the pages. The walk goes on
+// after the first two.
+#[derive(Clone, Copy, Debug, PartialEq, Eq)]
 pub enum Node {
     Page(Walk),
     Band { from: usize, end: usize, next: Walk },
     End(usize),
-    Refused(Refusal),
-}
-
-// The walk after the count of a page that was sought, or a refusal.
-#[derive(Clone, Copy)]
-pub enum Opened {
-    Bands(Walk),
-    Refused(Refusal),
-}
-
-// The places of a band's first command and of what comes after its last, or a refusal.
-#[derive(Clone, Copy)]
-pub enum Found {
-    At(usize, usize),
-    Refused(Refusal),
 }
 
 // The walk at the first page.
+#[tactic(auto, using(crate::proofs::Walks::walk_first))]
 pub fn first_page(sheet: &[u8]) -> Walk
     ensures { to_come sheet.now (band_count (herald_of (words sheet.now))) result ≡ layout_of (words sheet.now) }
 {
@@ -62,124 +42,95 @@ pub fn first_page(sheet: &[u8]) -> Walk
     }
 }
 
-// What stands at walk w, where a page has `per_page` bands.
-pub fn next(sheet: &[u8], per_page: usize, w: Walk) -> Node
-    ensures { Stepped sheet.now per_page w result }
+// The count that stands at place p.
+#[tactic(auto, using(crate::proofs::Walks::lengths))]
+fn count_at(sheet: &[u8], p: usize) -> Result<usize, Refusal>
+    ensures { MatchResult
+        result
+        (λ n. (p < length (words sheet.now)) × (n ≡ at (words sheet.now) p))
+        (λ r. (length (words sheet.now) ≤ p) × (r ≡ record { fault = Cut; place = p })) }
 {
-    let len = sheet.len() / 2;
-    let at = w.at;
-    let bands = w.bands;
-    let pages = w.pages;
-    if bands == 0 {
-        if pages == 0 {
-            return Node::End(at);
-        }
-        if at >= len {
-            return Node::Refused(Refusal {
-                number: MISSING,
-                place: at,
-            });
-        }
-        if word(sheet, at) as usize != per_page {
-            return Node::Refused(Refusal {
-                number: WRONG_COUNT,
-                place: at,
-            });
-        }
-        return Node::Page(Walk {
-            at: at + 1,
-            bands: per_page,
-            pages: pages - 1,
-        });
+    if p >= sheet.len() / 2 {
+        return Err(Fault::Cut.at(p));
     }
-    if at >= len {
-        return Node::Refused(Refusal {
-            number: MISSING,
-            place: at,
-        });
-    }
-    let c = word(sheet, at) as usize;
-    if c > len - at - 1 {
-        return Node::Refused(Refusal {
-            number: MISSING,
-            place: at,
-        });
-    }
-    let from = at + 1;
-    let end = from + c;
-    Node::Band {
-        from,
-        end,
-        next: Walk {
-            at: end,
-            bands: bands - 1,
-            pages,
-        },
-    }
+    Ok(word(sheet, p) as usize)
 }
 
-// The walk after the count of page `page`.
-pub fn find_page(sheet: &[u8], page: usize) -> Opened
+// What stands at walk w, where a page has `per_page` bands: the caller's number, so that no test of the herald stands in the walk's loop.
+#[tactic(auto, using(crate::proofs::Walks::lengths))]
+pub fn next(sheet: &[u8], per_page: usize, w: Walk) -> Result<Node, Refusal>
+    ensures { Stepped sheet.now per_page w result }
+{
+    if w.bands > 0 {
+        let count = count_at(sheet, w.at)?;
+        let from = w.at + 1;
+        if count > sheet.len() / 2 - from {
+            return Err(Fault::Cut.at(w.at));
+        }
+        let end = from + count;
+        let next = Walk {
+            at: end,
+            bands: w.bands - 1,
+            ..w
+        };
+        return Ok(Node::Band { from, end, next });
+    }
+    if w.pages == 0 {
+        return Ok(Node::End(w.at));
+    }
+    if count_at(sheet, w.at)? != per_page {
+        return Err(Fault::PageOrBandCount.at(w.at));
+    }
+    Ok(Node::Page(Walk {
+        at: w.at + 1,
+        bands: per_page,
+        pages: w.pages - 1,
+    }))
+}
+
+// The walk after the count of page `page`. Of the nodes pages alone are counted, so the loop is over no range.
+#[tactic(auto, unfolding(crate::specs::Layout::reach_page))]
+pub fn find_page(sheet: &[u8], page: usize) -> Result<Walk, Refusal>
     ensures { opened_as sheet.now result ≡ reach_page page (layout_of (words sheet.now)) }
 {
     let per_page = bands_per_page(sheet);
     let mut left = page;
     let mut w = first_page(sheet);
     loop {
-        match next(sheet, per_page, w) {
+        w = match next(sheet, per_page, w)? {
+            Node::Page(v) if left == 0 => return Ok(v),
             Node::Page(v) => {
-                if left == 0 {
-                    return Opened::Bands(v);
-                }
                 left -= 1;
-                w = v;
+                v
             }
-            Node::Band { next: v, .. } => w = v,
-            Node::End(_) => {
-                return Opened::Refused(Refusal {
-                    number: NO_BAND,
-                    place: 0,
-                });
-            }
-            Node::Refused(x) => return Opened::Refused(x),
-        }
+            Node::Band { next: v, .. } => v,
+            Node::End(_) => return Err(Fault::NoBand.at(0)),
+        };
     }
 }
 
-// Band `band` of those that are to come at walk w before the next page.
-pub fn find_band(sheet: &[u8], w: Walk, band: usize) -> Found
+// Band `band` of those that are to come at walk w before the next page: the places of its first command and of what comes after its last. It is not
+// one function with `find_page`, which goes past the bands where this one stops at a page: the closures that say so would be longer than the loop.
+// No range either: the loop ends at a node that is no band, and over 0..band the step would be written twice, in the loop and after it.
+#[tactic(auto, unfolding(crate::specs::Layout::reach))]
+pub fn find_band(sheet: &[u8], w: Walk, band: usize) -> Result<(usize, usize), Refusal>
     ensures result_value { found_as sheet.now result ≡ reach band (to_come sheet.now (band_count (herald_of (words sheet.now))) w) }
     ensures in_sheet { InSheet sheet.now result }
 {
     let per_page = bands_per_page(sheet);
     let mut left = band;
     let mut v = w;
-    loop {
-        match next(sheet, per_page, v) {
-            Node::Band {
-                from,
-                end,
-                next: after,
-            } => {
-                if left == 0 {
-                    return Found::At(from, end);
-                }
-                left -= 1;
-                v = after;
-            }
-            Node::Page(_) => {
-                return Found::Refused(Refusal {
-                    number: NO_BAND,
-                    place: 0,
-                });
-            }
-            Node::End(_) => {
-                return Found::Refused(Refusal {
-                    number: NO_BAND,
-                    place: 0,
-                });
-            }
-            Node::Refused(x) => return Found::Refused(x),
+    while let Node::Band {
+        from,
+        end,
+        next: after,
+    } = next(sheet, per_page, v)?
+    {
+        if left == 0 {
+            return Ok((from, end));
         }
+        left -= 1;
+        v = after;
     }
+    Err(Fault::NoBand.at(0))
 }

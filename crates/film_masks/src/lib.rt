@@ -1,133 +1,124 @@
-// Masks in a colour, inked into the rows that they have in a band buffer: a loop for each kind. Each row is lent as its own part of the buffer. `tile` are
-// the words of the colour's tile.
+// Masks in a colour, inked into the rows that they have in a band buffer. Each row is lent as its own part of the buffer.
 #![tactic(auto)]
 
-ghost use Rattle.std.specs.Prelude.{◌≡◌, ◌&&◌, ◌+◌, ◌*◌, ◌≤◌, ◌<◌, leb, ltb, eqb, length};
+ghost use Rattle.std.specs.Prelude.{◌≡◌, ◌&&◌, ◌+◌, ◌-◌, ◌≤◌, ◌<◌, ℕ, Bool, leb, ltb, eqb, length};
 ghost use Rattle.film_words.specs.Words.{words};
 ghost use Rattle.film_commands.specs.Commands.{rectangle, trapezoid, runs, samples};
-ghost use Rattle.film_commands.specs.Code.{mask_of, colour_with, colour_of};
-ghost use Rattle.film_herald.specs.Herald.{row_length};
+ghost use Rattle.film_commands.specs.Code.{mask_of, colour_of};
 ghost use Rattle.film_imaging.specs.Masks.{masked};
+ghost use Rattle.film_imaging.specs.Colours.{painted};
+ghost use Rattle.film_paint.specs.Inks.{colour_in};
+ghost use Rattle.film_paint.specs.Rows.{window_of, painted_row};
 ghost use Rattle.film_masks.specs.Bands.{painted_frame};
+ghost use Rattle.film_masks.specs.Lines.{HasRows, TakesLines, LinesInked};
 
-use film_commands::{Colour, Mask, source_words, tile_words};
+use film_commands::{Colour, Mask, Rectangle, Trapezoid, source_words, tile_words};
 use film_edges::edge_at;
 use film_herald::row_bytes;
-use film_paint::{Frame, ink_samples, ink_stretch};
+use film_paint::{Frame, Ink, ink_samples, ink_stretch};
 use film_words::word;
 
-// Inks the stretch from dot `from` up to, not including, `to` into line s, which the band has; n is the bytes of a row.
-fn stretch_in_row(
-    buf: &mut [u8],
-    frame: Frame,
-    n: usize,
-    s: u32,
-    from: usize,
-    to: usize,
-    colour: Colour,
-    tile: &[u8],
-)
-    requires { (frame.rows * row_length frame.width ≤ length buf.old) × (n ≡ row_length frame.width) × (frame.top ≤ s) × (s < frame.top + frame.rows) }
-    ensures { buf.new ≡ painted_frame frame (colour_with colour (words tile.now)) (λ t f. eqb t s && (leb from f && ltb f to)) buf.old }
+// The ink of a colour. The words of its tile stand in the load file.
+fn ink_of(load: &[u8], colour: Colour) -> Ink<'_>
+    ensures { (s f : ℕ) (M I : Bool) → painted (colour_in result) s f M I ≡ painted (colour_of load.now colour) s f M I }
 {
+    match colour {
+        Colour::Solid(v) => Ink::Solid(v),
+        Colour::Tile(t) => Ink::Tile {
+            transparent: t.transparent,
+            tile: tile_words(load, colour),
+        },
+    }
+}
+
+// Inks the stretch from dot `from` up to, not including, `to` into line s, which the band has.
+fn stretch_in_row(buf: &mut [u8], frame: Frame, s: u32, from: usize, to: usize, ink: Ink)
+    requires { HasRows frame buf.old × (frame.top ≤ s) × (s < frame.top + frame.rows) }
+    ensures { buf.new ≡ painted_frame frame (colour_in ink.entry) (λ t f. eqb t s && (leb from f && ltb f to)) buf.old }
+{
+    let n = row_bytes(frame.width);
     let at = (s - frame.top as u32) as usize * n;
-    ink_stretch(&mut buf[at..at + n], frame, s, from, to, colour, tile);
+    ink_stretch(&mut buf[at..at + n], frame, s, from, to, ink);
+}
+
+// Inks the mask's lines from `first` up to, not including, `end` that the band has, each by `ink_row` into its row.
+fn ink_lines<F: Fn(&mut [u8], u32)>(buf: &mut [u8], frame: Frame, first: u32, end: u32, ink_row: F)
+    requires { HasRows frame buf.old × TakesLines first end (F.pre ink_row) }
+    ensures { LinesInked frame first end (F.post ink_row) buf.old buf.new }
+{
+    let n = row_bytes(frame.width);
+    let top = frame.top as u32;
+    for s in first.max(top)..end.min(top + frame.rows as u32) {
+        let at = (s - top) as usize * n;
+        ink_row(&mut buf[at..at + n], s);
+    }
 }
 
 // Inks a rectangle.
-fn ink_rectangle(
-    buf: &mut [u8],
-    frame: Frame,
-    s_min: u16,
-    s_size: u16,
-    f_min: u16,
-    f_size: u16,
-    colour: Colour,
-    tile: &[u8],
-)
-    requires { frame.rows * row_length frame.width ≤ length buf.old }
-    ensures { buf.new ≡ painted_frame frame (colour_with colour (words tile.now)) (masked (rectangle s_min s_size f_min f_size)) buf.old }
+fn ink_rectangle(buf: &mut [u8], frame: Frame, r: Rectangle, ink: Ink)
+    requires { HasRows frame buf.old }
+    ensures { buf.new ≡ painted_frame frame (colour_in ink.entry) (masked (rectangle r.s_min r.s_size r.f_min r.f_size)) buf.old }
 {
-    let n = row_bytes(frame.width);
-    let top = frame.top as u32;
-    let band_end = top + frame.rows as u32;
-    let first = s_min as u32;
-    let mask_end = first + s_size as u32;
-    let from = f_min as usize;
-    let to = from + f_size as usize;
-    let mut s = if first < top { top } else { first };
-    while s < mask_end && s < band_end {
-        stretch_in_row(buf, frame, n, s, from, to, colour, tile);
-        s += 1;
-    }
+    let first = r.s_min as u32;
+    let end = first + r.s_size as u32;
+    let from = r.f_min as usize;
+    let to = from + r.f_size as usize;
+    ink_lines(
+        buf,
+        frame,
+        first,
+        end,
+        |row, s| ink_stretch(row, frame, s, from, to, ink),
+    );
 }
 
-// Inks a trapezoid: on each line the stretch between its two edges, rounded up. One of a single line has an edge over no lines, its first.
-#[tactic(auto, using(crate::proofs::Lines::trapezoid_none))]
-fn ink_trapezoid(
-    buf: &mut [u8],
-    frame: Frame,
-    s_min: u16,
-    s_size: u16,
-    f_min: u16,
-    f_size: u16,
-    f_min_last: u16,
-    f_size_last: u16,
-    colour: Colour,
-    tile: &[u8],
-)
-    requires { frame.rows * row_length frame.width ≤ length buf.old }
-    ensures { buf.new ≡ painted_frame frame (colour_with colour (words tile.now)) (masked (trapezoid s_min s_size f_min f_size f_min_last f_size_last)) buf.old }
+// Inks line s of a trapezoid into its row: the stretch between its two edges there, rounded up. One of a single line has an edge over no lines, its first.
+fn ink_trapezoid_row(row: &mut [u8], frame: Frame, t: Trapezoid, s: u32, ink: Ink)
+    requires { (t.s_min ≤ s) × (s < t.s_min + t.s_size) }
+    ensures { row.new ≡ painted_row (window_of frame) (colour_in ink.entry) s (masked (trapezoid t.s_min t.s_size t.f_min t.f_size t.f_min_last t.f_size_last) s) row.old }
 {
-    let n = row_bytes(frame.width);
-    if s_size == 0 {
-        return;
-    }
-    let top = frame.top as u32;
-    let band_end = top + frame.rows as u32;
-    let first = s_min as u32;
-    let lines = s_size - 1;
-    let mask_end = first + lines as u32 + 1;
-    let a = f_min as u32;
-    let z = f_min_last as u32;
-    let b = a + f_size as u32;
-    let y = z + f_size_last as u32;
-    let mut s = if first < top { top } else { first };
-    while s < mask_end && s < band_end {
-        let d = (s - first) as u16;
-        let from = edge_at(a, z, lines, d) as usize;
-        let to = edge_at(b, y, lines, d) as usize;
-        stretch_in_row(buf, frame, n, s, from, to, colour, tile);
-        s += 1;
-    }
+    let lines = t.s_size - 1;
+    let d = (s - t.s_min as u32) as u16;
+    let a = t.f_min as u32;
+    let z = t.f_min_last as u32;
+    let from = edge_at(a, z, lines, d) as usize;
+    let to = edge_at(a + t.f_size as u32, z + t.f_size_last as u32, lines, d) as usize;
+    ink_stretch(row, frame, s, from, to, ink);
+}
+
+// Inks a trapezoid.
+fn ink_trapezoid(buf: &mut [u8], frame: Frame, t: Trapezoid, ink: Ink)
+    requires { HasRows frame buf.old }
+    ensures { buf.new ≡ painted_frame frame (colour_in ink.entry) (masked (trapezoid t.s_min t.s_size t.f_min t.f_size t.f_min_last t.f_size_last)) buf.old }
+{
+    let first = t.s_min as u32;
+    let end = first + t.s_size as u32;
+    ink_lines(
+        buf,
+        frame,
+        first,
+        end,
+        |row, s| ink_trapezoid_row(row, frame, t, s, ink),
+    );
 }
 
 // Inks a run group: it is walked once, forward, up to the band's last line. `group` are its words.
-fn ink_runs(buf: &mut [u8], frame: Frame, s_min: u16, group: &[u8], colour: Colour, tile: &[u8])
-    requires { frame.rows * row_length frame.width ≤ length buf.old }
-    ensures { buf.new ≡ painted_frame frame (colour_with colour (words tile.now)) (masked (runs s_min (words group.now))) buf.old }
+fn ink_runs(buf: &mut [u8], frame: Frame, s_min: u16, group: &[u8], ink: Ink)
+    requires { HasRows frame buf.old }
+    ensures { buf.new ≡ painted_frame frame (colour_in ink.entry) (masked (runs s_min (words group.now))) buf.old }
 {
-    let n = row_bytes(frame.width);
     let top = frame.top as u32;
     let band_end = top + frame.rows as u32;
     let end = group.len() / 2;
     let mut s = s_min as u32;
     let mut lines = word(group, 0);
     let mut q = 1;
+    // By place, and not a `for` over runs: two counts, of lines and of the band's, end it as well.
     while lines > 0 && s < band_end && q + 2 <= end {
         let w = word(group, q + 1);
         if s >= top {
             let from = word(group, q) as usize;
-            stretch_in_row(
-                buf,
-                frame,
-                n,
-                s,
-                from,
-                from + (w % 32768) as usize,
-                colour,
-                tile,
-            );
+            stretch_in_row(buf, frame, s, from, from + (w % 32768) as usize, ink);
         }
         q += 2;
         if w >= 32768 {
@@ -138,39 +129,19 @@ fn ink_runs(buf: &mut [u8], frame: Frame, s_min: u16, group: &[u8], colour: Colo
 }
 
 // Inks a sample array, line by line. `array` are its words.
-fn ink_array(
-    buf: &mut [u8],
-    frame: Frame,
-    s_min: u16,
-    f_min: u16,
-    array: &[u8],
-    colour: Colour,
-    tile: &[u8],
-)
-    requires { frame.rows * row_length frame.width ≤ length buf.old }
-    ensures { buf.new ≡ painted_frame frame (colour_with colour (words tile.now)) (masked (samples s_min f_min (words array.now))) buf.old }
+fn ink_array(buf: &mut [u8], frame: Frame, s_min: u16, f_min: u16, array: &[u8], ink: Ink)
+    requires { HasRows frame buf.old }
+    ensures { buf.new ≡ painted_frame frame (colour_in ink.entry) (masked (samples s_min f_min (words array.now))) buf.old }
 {
-    let n = row_bytes(frame.width);
-    let top = frame.top as u32;
-    let band_end = top + frame.rows as u32;
     let first = s_min as u32;
-    let mask_end = first + word(array, 0) as u32;
-    let mut s = if first < top { top } else { first };
-    while s < mask_end && s < band_end {
-        let at = (s - top) as usize * n;
-        let i = (s - first) as usize;
-        ink_samples(
-            &mut buf[at..at + n],
-            frame,
-            s,
-            i,
-            f_min,
-            array,
-            colour,
-            tile,
-        );
-        s += 1;
-    }
+    let end = first + word(array, 0) as u32;
+    ink_lines(
+        buf,
+        frame,
+        first,
+        end,
+        |row, s| ink_samples(row, frame, s, (s - first) as usize, f_min, array, ink),
+    );
 }
 
 // Inks a mask into a band buffer, on the rows that it has in the band. A buffer that is shorter than the band's rows stays as it is.
@@ -184,60 +155,24 @@ pub fn ink_mask<'a>(
 )
     ensures { buf.new ≡ painted_frame frame (colour_of load.now colour) (masked (mask_of sheet.now load.now m)) buf.old }
 {
-    let tile = tile_words(load, colour);
-    if buf.len() < frame.rows as usize * row_bytes(frame.width) {
+    let ink = ink_of(load, colour);
+    if buf.len() < frame.size() {
         return;
     }
     match m {
-        Mask::Rectangle {
-            s_min,
-            s_size,
-            f_min,
-            f_size,
-        } => ink_rectangle(buf, frame, s_min, s_size, f_min, f_size, colour, tile),
-        Mask::Trapezoid {
-            s_min,
-            s_size,
-            f_min,
-            f_size,
-            f_min_last,
-            f_size_last,
-        } => ink_trapezoid(
-            buf,
-            frame,
-            s_min,
-            s_size,
-            f_min,
-            f_size,
-            f_min_last,
-            f_size_last,
-            colour,
-            tile,
-        ),
+        Mask::Rectangle(r) => ink_rectangle(buf, frame, r, ink),
+        Mask::Trapezoid(t) => ink_trapezoid(buf, frame, t, ink),
         Mask::Runs { s_min, source } => {
-            ink_runs(
-                buf,
-                frame,
-                s_min,
-                source_words(sheet, load, source),
-                colour,
-                tile,
-            )
+            let group = source_words(sheet, load, source);
+            ink_runs(buf, frame, s_min, group, ink)
         }
         Mask::Samples {
             s_min,
             f_min,
             source,
         } => {
-            ink_array(
-                buf,
-                frame,
-                s_min,
-                f_min,
-                source_words(sheet, load, source),
-                colour,
-                tile,
-            )
+            let array = source_words(sheet, load, source);
+            ink_array(buf, frame, s_min, f_min, array, ink)
         }
     }
 }

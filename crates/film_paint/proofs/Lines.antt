@@ -1,7 +1,7 @@
 -- Laws of a line painted dot by dot into its row, whose first dot is dot `left` of the film: M is the mask by the row's dots, and d are those dots
 -- before. Assumes nothing.
 use mathlib.Core.Path.{◌≡◌, refl, sym, ap, ◌∙◌}
-use mathlib.Core.Bool.{Bool, false, cond, ◌&&◌, and-false}
+use mathlib.Core.Bool.{Bool, true, false, cond, ◌&&◌, and-true, and-false}
 use mathlib.Core.List.{List}
 use Prim.Native.Nat.{ℕ, ◌+◌, ◌-◌, ◌*◌, ◌<◌, ◌≤◌, min}
 use native.Mathlib.Omega.{arith}
@@ -12,19 +12,19 @@ use lib.ListN.{length}
 use Rattle.row.specs.Dots.{dot_at, row_of}
 use Rattle.row.specs.Stretches.{with_dot, filled}
 use Rattle.row.proofs.Dots.{Bytes, row_is, row_of-same, dot_row_of, length_is}
-use Rattle.truth.proofs.Tests.{Is, leb_is, ltb_is, and_is, is_same, is_false}
+use Rattle.truth.proofs.Tests.{Is, leb_is, ltb_is, and_is, is_same}
 use Rattle.film_words.specs.Words.{at}
 use Rattle.film_words.specs.Arrays.{samples_in}
-use Rattle.film_commands.specs.Band.{Colour, tiled}
-use Rattle.film_commands.specs.Code.{colour_with}
-use Rattle.film_commands.specs.declared.Colour as code
-use Rattle.film_commands.specs.declared.Colour.TheVariants.{Solid, Tile}
+use Rattle.film_commands.specs.Band.{Colour}
 use Rattle.film_herald.specs.Herald.{Window}
 use Rattle.film_imaging.specs.Masks.{sample}
 use Rattle.film_imaging.specs.Colours.{painted}
+use Rattle.film_paint.specs.Inks.{colour_in}
 use Rattle.film_paint.specs.Rows.{painted_line}
+use Rattle.film_paint.specs.declared.Ink.{Ink}
+use Rattle.film_paint.specs.declared.Ink.TheVariants.{Solid}
 use Rattle.film_paint.proofs.Samples.{past_dots}
-use Rattle.film_paint.proofs.Painting.{painted_off, solid-painted, tile-painted}
+use Rattle.film_paint.proofs.Painting.{painted_off, solid-painted}
 
 -- a mask without dots leaves the row
 pub line_empty : (w : Window) (C : Colour) (s : ℕ) (M : ℕ → Bool) (row : List ℕ) → Bytes row → ((f : ℕ) → M f ≡ false)
@@ -33,10 +33,6 @@ unfolding painted_line
 line_empty w C s M row bytes none =
     row_is (length row) (painted_line w C s M (dot_at row)) row bytes refl
     (λ j l. sym (rw (none (w.f_min + j), and-false) (painted_off C s (w.f_min + j) (dot_at row j))))
-
--- every dot of the mask is one of those from `from` up to, not including, `end`
-abbrev pub Between : (from end : ℕ) → (ℕ → Bool) → Type 0
-Between from end M = (j : ℕ) → (from ≤ j → j < end → ⊥) → M j ≡ false
 
 -- a mask with the same dots of the row
 mask_same : (left : ℕ) (C : Colour) (s n : ℕ) (M N d : ℕ → Bool) (row : List ℕ) → ((j : ℕ) → j < 8 * n → M j ≡ N j)
@@ -51,47 +47,62 @@ mask_same left C s n M N d row h e =
 unfoldable pub painted_to : (k left : ℕ) → Colour → (s : ℕ) → (M d : ℕ → Bool) → ℕ → Bool
 painted_to k left C s M d j = painted C s (left + j) (ltb j k && M j) (d j)
 
-module _ (left : ℕ) (C : Colour) (s : ℕ) (M : ℕ → Bool) where
+-- those of the mask M from dot `from` up to, not including, `to`
+abbrev pub part : (from to left : ℕ) → (M : ℕ → Bool) → ℕ → Bool
+part from to left M j = leb from j && ltb j to && M (left + j)
+
+module _ (from to left : ℕ) (C : Colour) (s : ℕ) (M : ℕ → Bool) where
   -- none is painted yet
-  pub line_none : (from end : ℕ) (row : List ℕ) → Between from end M → Bytes row → row ≡ row_of (length row) (painted_to from left C s M (dot_at row))
+  pub line_none : (row : List ℕ) → Bytes row → row ≡ row_of (length row) (painted_to from left C s (part from to left M) (dot_at row))
   unfolding painted_to
-  line_none from end row within bytes =
-      row_is (length row) (painted_to from left C s M (dot_at row)) row bytes refl
+  line_none row bytes =
+      row_is (length row) (painted_to from left C s (part from to left M) (dot_at row)) row bytes refl
       (λ j l. sym (ap (λ (x : Bool). painted C s (left + j) x (dot_at row j)) (go j (dec_lt j from)) ∙ painted_off C s (left + j) (dot_at row j)))
     where
-      go : (j : ℕ) → Dec (j < from) → (ltb j from && M j) ≡ false
-      go j (yes h) = rw (lt-ltb j from h) (within j (λ p q. omega arith))
+      go : (j : ℕ) → Dec (j < from) → (ltb j from && part from to left M j) ≡ false
+      go j (yes h) = rw (lt-ltb j from h, lt-leb from j h)
       go j (no h) = rw (le-ltb j from (omega arith))
 
-  -- those before k are painted, and then dot k; m is the mask there
-  pub line_more : (n k : ℕ) (m : Bool) (d : ℕ → Bool) (row row' : List ℕ) → row ≡ row_of n (painted_to k left C s M d)
-      → row' ≡ row_of (length row) (with_dot k (painted C s (left + k) m (dot_at row k)) (dot_at row)) → m ≡ M k
-      → row' ≡ row_of n (painted_to (k + 1) left C s M d)
-  unfolding painted_to with_dot
-  line_more n k m d row row' e e' h =
-      e' ∙ ap (λ (b : ℕ). row_of b (with_dot k (painted C s (left + k) m (dot_at row k)) (dot_at row))) (length_is n (painted_to k left C s M d) row e)
-      ∙ row_of-same n (with_dot k (painted C s (left + k) m (dot_at row k)) (dot_at row)) (painted_to (k + 1) left C s M d)
-      (λ j l. go j (ap (λ (r : List ℕ). dot_at r j) e ∙ dot_row_of n (painted_to k left C s M d) j l) (ℕ_discrete j k))
-    where
-      go : (j : ℕ) → dot_at row j ≡ painted C s (left + j) (ltb j k && M j) (d j) → Dec (j ≡ k)
-          → cond (eqb j k) (painted C s (left + k) m (dot_at row k)) (dot_at row j) ≡ painted C s (left + j) (ltb j (k + 1) && M j) (d j)
-      go j o (yes q) =
-          let old : dot_at row k ≡ d k = ap (dot_at row) (sym q) ∙ o ∙ rw (q, le-ltb k k (omega arith)) (painted_off C s (left + k) (d k)) in
-          rw (eq-eqb j k q, old, q, lt-ltb k (k + 1) (omega arith), h)
-      go j o (no q) =
-          rw (ne_eqb j k q)
-          (o ∙ ap (λ (x : Bool). painted C s (left + j) (x && M j) (d j))
-          (is_same (ltb j k) (ltb j (k + 1)) (ltb_is j k) (ltb_is j (k + 1)) (λ a. omega arith) (λ a. omega arith)))
+  module _ (n k : ℕ) (d : ℕ → Bool) (row : List ℕ) (e : row ≡ row_of n (painted_to k left C s (part from to left M) d)) where
+    -- those before k are painted, and then dot k, which the mask has
+    pub line_more : (row' : List ℕ) → row' ≡ row_of (length row) (with_dot k (painted C s (left + k) true (dot_at row k)) (dot_at row))
+        → from ≤ k → k < to → M (left + k) ≡ true → row' ≡ row_of n (painted_to (k + 1) left C s (part from to left M) d)
+    unfolding painted_to with_dot
+    line_more row' e' a b h =
+        e' ∙ ap (λ (b : ℕ). row_of b (with_dot k (painted C s (left + k) true (dot_at row k)) (dot_at row))) (length_is n (painted_to k left C s (part from to left M) d) row e)
+        ∙ row_of-same n (with_dot k (painted C s (left + k) true (dot_at row k)) (dot_at row)) (painted_to (k + 1) left C s (part from to left M) d)
+        (λ j l. go j (ap (λ (r : List ℕ). dot_at r j) e ∙ dot_row_of n (painted_to k left C s (part from to left M) d) j l) (ℕ_discrete j k))
+      where
+        go : (j : ℕ) → dot_at row j ≡ painted C s (left + j) (ltb j k && part from to left M j) (d j) → Dec (j ≡ k)
+            → cond (eqb j k) (painted C s (left + k) true (dot_at row k)) (dot_at row j)
+            ≡ painted C s (left + j) (ltb j (k + 1) && part from to left M j) (d j)
+        go j o (yes q) =
+            let old : dot_at row k ≡ d k = ap (dot_at row) (sym q) ∙ o ∙ rw (q, le-ltb k k (omega arith)) (painted_off C s (left + k) (d k)) in
+            rw (eq-eqb j k q, old, q, lt-ltb k (k + 1) (omega arith), le-leb from k a, lt-ltb k to b, h)
+        go j o (no q) =
+            rw (ne_eqb j k q)
+            (o ∙ ap (λ (x : Bool). painted C s (left + j) (x && part from to left M j) (d j))
+            (is_same (ltb j k) (ltb j (k + 1)) (ltb_is j k) (ltb_is j (k + 1)) (λ a. omega arith) (λ a. omega arith)))
 
-  -- all are painted: k is at the end, or past the row's
-  pub line_done : (n from end k : ℕ) (d : ℕ → Bool) (row : List ℕ) → Between from end M → min end (8 * n) ≤ k
-      → row ≡ row_of n (painted_to k left C s M d) → row ≡ row_of n (λ j. painted C s (left + j) (M j) (d j))
-  unfolding painted_to
-  line_done n from end k d row within h = mask_same left C s n (λ j. ltb j k && M j) M d row (λ j l. go j l (dec_lt j k))
-    where
-      go : (j : ℕ) → j < 8 * n → Dec (j < k) → (ltb j k && M j) ≡ M j
-      go j l (yes p) = rw (lt-ltb j k p)
-      go j l (no p) = rw (le-ltb j k (omega arith)) (sym (within j (λ a b. omega arith)))
+    -- dot k stays, which the mask has not
+    pub line_kept : M (left + k) ≡ false → row ≡ row_of n (painted_to (k + 1) left C s (part from to left M) d)
+    unfolding painted_to
+    line_kept h = mask_same left C s n (λ j. ltb j k && part from to left M j) (λ j. ltb j (k + 1) && part from to left M j) d row (λ j l. go j (ℕ_discrete j k)) e
+      where
+        go : (j : ℕ) → Dec (j ≡ k) → (ltb j k && part from to left M j) ≡ (ltb j (k + 1) && part from to left M j)
+        go j (yes q) = rw (q, h) (simp and-false)
+        go j (no q) =
+            ap (λ (x : Bool). x && part from to left M j)
+            (is_same (ltb j k) (ltb j (k + 1)) (ltb_is j k) (ltb_is j (k + 1)) (λ a. omega arith) (λ a. omega arith))
+
+    -- all are painted
+    pub line_done : to ≤ k → row ≡ row_of n (λ j. painted C s (left + j) (part from to left M j) (d j))
+    unfolding painted_to
+    line_done h = mask_same left C s n (λ j. ltb j k && part from to left M j) (part from to left M) d row (λ j l. go j (dec_lt j k)) e
+      where
+        go : (j : ℕ) → Dec (j < k) → (ltb j k && part from to left M j) ≡ part from to left M j
+        go j (yes p) = rw (lt-ltb j k p)
+        go j (no p) = rw (le-ltb j k (omega arith), le-ltb j to (omega arith)) (simp and-false)
 
 -- ---- the mask of a stretch
 
@@ -100,9 +111,6 @@ stretch from to g = leb from g && ltb g to
 
 pub stretch_is : (from to g : ℕ) → Is (stretch from to g) ((from ≤ g) × (g < to))
 stretch_is from to g = and_is (leb from g) (ltb g to) (leb_is from g) (ltb_is g to)
-
-pub stretch-between : (from to : ℕ) → Between from to (stretch from to)
-stretch-between from to g h = is_false (stretch from to g) (stretch_is from to g) (λ p. h p.0 p.1)
 
 -- a stretch of the film, clipped to the window, is one of the row
 pub line_clipped : (n : ℕ) (w : Window) (from to first end : ℕ) (C : Colour) (s : ℕ) (d : ℕ → Bool) (row : List ℕ) → first ≡ from - w.f_min
@@ -117,37 +125,37 @@ line_clipped n w from to first end C s d row a b =
     (λ p. omega arith) (λ p. omega arith))
 
 -- filled with a solid colour, it is painted
-pub line_filled : (n left from to : ℕ) (colour : code.Colour) (ws : List ℕ) (s : ℕ) (v : Bool) (d : ℕ → Bool) (row : List ℕ) → colour ≡ Solid v
-    → row ≡ row_of n (filled from to v d) → row ≡ row_of n (λ j. painted (colour_with colour ws) s (left + j) (stretch from to j) (d j))
+pub line_filled : (n left from to : ℕ) (ink : Ink) (s : ℕ) (v : Bool) (d : ℕ → Bool) (row : List ℕ) → ink ≡ Solid v
+    → row ≡ row_of n (filled from to v d) → row ≡ row_of n (λ j. painted (colour_in ink) s (left + j) (stretch from to j) (d j))
 unfolding filled
-line_filled n left from to colour ws s v d row h e =
-    e ∙ row_of-same n (filled from to v d) (λ j. painted (colour_with colour ws) s (left + j) (stretch from to j) (d j))
-    (λ j l. solid-painted colour ws s (left + j) v (stretch from to j) (d j) h)
+line_filled n left from to ink s v d row h e =
+    e ∙ row_of-same n (filled from to v d) (λ j. painted (colour_in ink) s (left + j) (stretch from to j) (d j))
+    (λ j l. solid-painted ink s (left + j) v (stretch from to j) (d j) h)
 
--- painted with a tile, it is painted
-pub line_tiled : (n left from to : ℕ) (colour : code.Colour) (ws : List ℕ) (s : ℕ) (t : Bool) (a b : ℕ) (d : ℕ → Bool) (row : List ℕ)
-    → colour ≡ Tile t a b → row ≡ row_of n (λ j. painted (tiled t 0 ws) s (left + j) (stretch from to j) (d j))
-    → row ≡ row_of n (λ j. painted (colour_with colour ws) s (left + j) (stretch from to j) (d j))
-line_tiled n left from to colour ws s t a b d row h e =
-    e ∙ row_of-same n (λ j. painted (tiled t 0 ws) s (left + j) (stretch from to j) (d j))
-    (λ j. painted (colour_with colour ws) s (left + j) (stretch from to j) (d j))
-    (λ j l. tile-painted colour ws s (left + j) t a b (stretch from to j) (d j) h)
+-- painted dot by dot with a mask that has every dot
+pub line_dotted : (n left from to : ℕ) (C : Colour) (s : ℕ) (d : ℕ → Bool) (row : List ℕ)
+    → row ≡ row_of n (λ j. painted C s (left + j) (part from to left (λ f. true) j) (d j))
+    → row ≡ row_of n (λ j. painted C s (left + j) (stretch from to j) (d j))
+line_dotted n left from to C s d row e =
+    mask_same left C s n (part from to left (λ f. true)) (stretch from to) d row (λ j l. and-true (stretch from to j)) e
 
--- ---- the mask of line i of a sample array, from dot `from` of the film on, as far as it is in the window
+-- ---- the mask of line i of a sample array, from dot `from` of the film on
 
-abbrev pub samples_line : Window → (from : ℕ) → (ws : List ℕ) → (i : ℕ) → ℕ → Bool
-samples_line w from ws i j = ltb j w.f_size && (leb from (w.f_min + j) && sample (samples_in ws) i (w.f_min + j - from))
-
-module _ (w : Window) (from : ℕ) (ws : List ℕ) (i : ℕ) where
-  pub samples_on : (j : ℕ) → j < w.f_size → from ≤ w.f_min + j → sample (samples_in ws) i (w.f_min + j - from) ≡ samples_line w from ws i j
-  samples_on j h l = rw (lt-ltb j w.f_size h, le-leb from (w.f_min + j) l)
-
-  -- n are the dots of a line
-  pub samples_between : (n first end : ℕ) → n ≡ at ws 1 → first ≡ from - w.f_min → end ≡ min (from + n - w.f_min) w.f_size
-      → Between first end (samples_line w from ws i)
-  samples_between n first end e a b j h = go (dec_lt j w.f_size) (dec_le from (w.f_min + j))
-    where
-      go : Dec (j < w.f_size) → Dec (from ≤ w.f_min + j) → samples_line w from ws i j ≡ false
-      go (no p) q = rw (le-ltb j w.f_size (omega arith))
-      go (yes p) (no q) = rw (lt-leb from (w.f_min + j) (omega arith), and-false)
-      go (yes p) (yes q) = rw (← past_dots ws 0 i (w.f_min + j - from) n e (omega (arith, h (omega arith))), and-false, and-false)
+-- n are the dots of a line; those from `first` up to `end` are the row's
+pub line_sampled : (m : ℕ) (w : Window) (from : ℕ) (ws : List ℕ) (i n first end : ℕ) (C : Colour) (s : ℕ) (d : ℕ → Bool) (row : List ℕ) → n ≡ at ws 1
+    → first ≡ from - w.f_min → end ≡ min (from + n - w.f_min) w.f_size
+    → row ≡ row_of m (λ j. painted C s (w.f_min + j) (part first end w.f_min (λ f. sample (samples_in ws) i (f - from)) j) (d j))
+    → row ≡ row_of m (painted_line w C s (λ f. leb from f && sample (samples_in ws) i (f - from)) d)
+unfolding painted_line
+line_sampled m w from ws i n first end C s d row e a b =
+    mask_same w.f_min C s m (part first end w.f_min (λ f. sample (samples_in ws) i (f - from)))
+    (λ j. ltb j w.f_size && (leb from (w.f_min + j) && sample (samples_in ws) i (w.f_min + j - from))) d row
+    (λ j l. go j (dec_le from (w.f_min + j)) (dec_lt j w.f_size) (dec_lt j end))
+  where
+    go : (j : ℕ) → Dec (from ≤ w.f_min + j) → Dec (j < w.f_size) → Dec (j < end)
+        → part first end w.f_min (λ f. sample (samples_in ws) i (f - from)) j
+        ≡ (ltb j w.f_size && (leb from (w.f_min + j) && sample (samples_in ws) i (w.f_min + j - from)))
+    go j (no p) q r = rw (lt-leb from (w.f_min + j) (omega arith), lt-leb first j (omega arith)) (simp and-false)
+    go j (yes p) (no q) r = rw (le-ltb j w.f_size (omega arith), le-ltb j end (omega arith)) (simp and-false)
+    go j (yes p) (yes q) (yes r) = rw (lt-ltb j w.f_size q, le-leb from (w.f_min + j) p, le-leb first j (omega arith), lt-ltb j end r) refl
+    go j (yes p) (yes q) (no r) = rw (← past_dots ws 0 i (w.f_min + j - from) n e (omega arith)) (simp and-false)

@@ -37,11 +37,12 @@ module _ (ws : List ℕ) (p i j : ℕ) where
   past_dots n e h = sym (sample-at ∙ rw (← e, le-ltb j n h, and-false))
 
   -- a dot of it, as the code takes it out of its word
-  pub sample_is : (m n w : ℕ) → m ≡ at ws p → i < m → n ≡ at ws (p + 1) → j < n → w ≡ at ws (p + (2 + (i * line_words n + j / 16)))
+  pub sample_is : (m n w : ℕ) → m ≡ at ws p → i < m → n ≡ at ws (p + 1) → j < n → w ≡ at ws (p + 2 + i * line_words n + j / 16)
       → eqb (bit_and (w / 2 ^ (15 - j % 16)) 1) 1 ≡ sample (samples_in (drop p ws)) i j
   sample_is m n w em im en jn ew =
+      let place : p + 2 + i * line_words n + j / 16 ≡ p + (2 + (i * line_words n + j / 16)) = omega arith in
       ap (λ (x : ℕ). eqb x 1) (and_mask (w / 2 ^ (15 - j % 16)) 1)
-      ∙ sym (sample-at ∙ rw (← em, ← en, ← ew, lt-ltb i m im, lt-ltb j n jn))
+      ∙ sym (sample-at ∙ rw (← em, ← en, ← (ew ∙ ap (at ws) place), lt-ltb i m im, lt-ltb j n jn))
 
 -- ---- the tile at the beginning of the words
 

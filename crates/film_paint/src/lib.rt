@@ -1,19 +1,18 @@
-// Painting: a stretch or a line of samples in a colour, into a line's row. Rows are written by the functions of `row` alone. s is a line of the film, f a
-// dot of it, and `tile` are the words of the colour's tile.
+// Painting: a stretch or a line of samples, into a line's row. Rows are written by the functions of `row` alone. s is a line of the film, f a dot of it.
 #![tactic(auto)]
 
-ghost use Rattle.std.specs.Prelude.{◌≡◌, true, ◌&&◌, ◌+◌, ◌-◌, ◌≤◌, leb, ltb, length, drop};
+ghost use Rattle.std.specs.Prelude.{◌≡◌, true, ◌&&◌, ◌+◌, ◌-◌, ◌*◌, ◌≤◌, ◌<◌, ◌^◌, Bool, ℕ, leb, ltb, length, drop};
 ghost use Rattle.row.specs.Dots.{dot_at, row_of};
 ghost use Rattle.row.specs.Stretches.{with_dot};
 ghost use Rattle.film_words.specs.Words.{words};
 ghost use Rattle.film_words.specs.Arrays.{samples_in, tile_in};
-ghost use Rattle.film_commands.specs.Band.{tiled};
-ghost use Rattle.film_commands.specs.Code.{colour_with};
+ghost use Rattle.film_herald.specs.Herald.{row_length};
 ghost use Rattle.film_imaging.specs.Masks.{sample};
 ghost use Rattle.film_imaging.specs.Colours.{tile_dot, painted};
 ghost use Rattle.film_paint.specs.Rows.{window_of, painted_row};
+ghost use Rattle.film_paint.specs.Inks.{colour_in, Takes, Tells};
 
-use film_commands::Colour;
+use film_herald::row_bytes;
 use film_words::word;
 use row::{fill, set_dot};
 
@@ -26,38 +25,43 @@ pub struct Frame {
     pub width: u16,
 }
 
+impl Frame {
+    // The bytes of its rows.
+    pub fn size(self) -> usize
+        ensures { result ≡ self.rows * row_length self.width }
+    {
+        self.rows as usize * row_bytes(self.width)
+    }
+}
+
+// What a mask is painted with: a solid colour, or a tile by its words.
+#[derive(Clone, Copy)]
+pub enum Ink<'a> {
+    Solid(bool),
+    Tile { transparent: bool, tile: &'a [u8] },
+}
+
 // Dot j of line i of the sample array at place `at` of the file.
 fn sample_dot(file: &[u8], at: usize, i: usize, j: usize) -> bool
     requires { at ≤ 3 }
     ensures { result ≡ sample (samples_in (drop at (words file.now))) i j }
 {
-    if i < word(file, at) as usize {
-        let dots = word(file, at + 1) as usize;
-        if j < dots {
-            let w = word(file, at + (2 + (i * ((dots + 15) / 16) + j / 16)));
-            (w >> (15 - j % 16)) & 1 == 1
-        } else {
-            false
-        }
-    } else {
-        false
+    let dots = word(file, at + 1) as usize;
+    if i >= word(file, at) as usize || j >= dots {
+        return false;
     }
+    let w = word(file, at + 2 + i * dots.div_ceil(16) + j / 16);
+    (w >> (15 - j % 16)) & 1 == 1
 }
 
 // Dot f of line s of the tile as it is laid over the film.
 fn tile_dot(tile: &[u8], s: u32, f: usize) -> bool
     ensures { result ≡ tile_dot (tile_in (words tile.now)) s f }
 {
+    let s_min = word(tile, 1) as u32;
     let s_size = word(tile, 3) as u32;
     let f_size = word(tile, 4) as usize;
-    if s_size == 0 {
-        return false;
-    }
-    if f_size == 0 {
-        return false;
-    }
-    let s_min = word(tile, 1) as u32;
-    if s < s_min {
+    if s_size == 0 || f_size == 0 || s < s_min {
         return false;
     }
     let d = s - s_min;
@@ -68,84 +72,55 @@ fn tile_dot(tile: &[u8], s: u32, f: usize) -> bool
     sample_dot(tile, 3, (d % s_size) as usize, (f - start) % f_size)
 }
 
-// Paints dot f of line s, which is dot j of the row, with a tile.
-#[tactic(auto, using(crate::proofs::Painting::ink_row, crate::proofs::Painting::keep_row, crate::proofs::Painting::opaque_row))]
-fn paint_tile(row: &mut [u8], j: usize, s: u32, f: usize, transparent: bool, tile: &[u8])
-    ensures { row.new ≡ row_of (length row.old) (with_dot j (painted (tiled transparent 0 (words tile.now)) s f true (dot_at row.old j)) (dot_at row.old)) }
+// Paints dot f of line s, which is dot j of the row.
+fn paint_dot(row: &mut [u8], j: usize, s: u32, f: usize, ink: Ink)
+    ensures { row.new ≡ row_of (length row.old) (with_dot j (painted (colour_in ink.entry) s f true (dot_at row.old j)) (dot_at row.old)) }
 {
-    let c = tile_dot(tile, s, f);
-    // Where it is 0, a transparent tile leaves the dot.
-    if transparent {
-        if c {
-            set_dot(row, j, true);
-        }
-    } else {
-        set_dot(row, j, c);
-    }
-}
-
-// Paints dot f of line s, where the mask's dot there is m: it is dot j of the row.
-fn paint_dot(row: &mut [u8], j: usize, s: u32, f: usize, m: bool, colour: Colour, tile: &[u8])
-    ensures { row.new ≡ row_of (length row.old) (with_dot j (painted (colour_with colour (words tile.now)) s f m (dot_at row.old j)) (dot_at row.old)) }
-{
-    if m {
-        match colour {
-            Colour::Solid(v) => set_dot(row, j, v),
-            Colour::Tile { transparent, .. } => paint_tile(row, j, s, f, transparent, tile),
+    match ink {
+        Ink::Solid(v) => set_dot(row, j, v),
+        Ink::Tile { transparent, tile } => {
+            let c = tile_dot(tile, s, f);
+            // Where it is 0, a transparent tile leaves the dot.
+            if c || !transparent {
+                set_dot(row, j, c);
+            }
         }
     }
 }
 
-// Paints the dots of the row from `from` up to, not including, `to` with a tile, one by one; the row's first dot is dot `left` of the film.
-fn paint_tiles(
+// Paints the dots of the row from `from` up to, not including, `to`, one by one, where the mask has them. The row's first dot is dot `left` of the film, whose
+// dots the mask is asked for.
+fn paint_dots<F: Fn(usize) -> bool>(
     row: &mut [u8],
     left: u16,
     s: u32,
     from: usize,
     to: usize,
-    transparent: bool,
-    tile: &[u8],
+    ink: Ink,
+    mask: F,
 )
-    requires { to ≤ 65535 }
-    ensures { row.new ≡ row_of (length row.old) (λ j. painted (tiled transparent 0 (words tile.now)) s (left + j) (leb from j && ltb j to) (dot_at row.old j)) }
+    requires { (to < 2 ^ 32) × Takes left from to (F.pre mask) }
+    ensures { (M : ℕ → Bool) → Tells left from to (F.post mask) M → row.new ≡ row_of (length row.old) (λ j. painted (colour_in ink.entry) s (left + j) (leb from j && ltb j to && M (left + j)) (dot_at row.old j)) }
 {
-    let first = left as usize;
-    let mut j = from;
-    while j < to && j / 8 < row.len() {
-        paint_tile(row, j, s, first + j, transparent, tile);
-        j += 1;
+    for j in from..to {
+        let f = left as usize + j;
+        if mask(f) {
+            paint_dot(row, j, s, f, ink);
+        }
     }
 }
 
-// How far f lies after `left`; 0 before it.
-fn after(left: usize, f: usize) -> usize
-    ensures { result ≡ f - left }
-{
-    if f < left { 0 } else { f - left }
-}
-
 // Inks the stretch of the film from dot `from` up to, not including, `to` into the row of line s.
-pub fn ink_stretch(
-    row: &mut [u8],
-    frame: Frame,
-    s: u32,
-    from: usize,
-    to: usize,
-    colour: Colour,
-    tile: &[u8],
-)
-    ensures { row.new ≡ painted_row (window_of frame) (colour_with colour (words tile.now)) s (λ f. leb from f && ltb f to) row.old }
+pub fn ink_stretch(row: &mut [u8], frame: Frame, s: u32, from: usize, to: usize, ink: Ink)
+    ensures { row.new ≡ painted_row (window_of frame) (colour_in ink.entry) s (λ f. leb from f && ltb f to) row.old }
 {
     let left = frame.left as usize;
-    let width = frame.width as usize;
-    let first = after(left, from);
-    let last = after(left, to);
-    let end = if last < width { last } else { width };
-    match colour {
-        Colour::Solid(v) => fill(row, first, end, v),
-        Colour::Tile { transparent, .. } => {
-            paint_tiles(row, frame.left, s, first, end, transparent, tile)
-        }
+    let first = from.saturating_sub(left);
+    let last = to.saturating_sub(left);
+    let end = last.min(frame.width as usize);
+    match ink {
+        Ink::Solid(v) => fill(row, first, end, v),
+        Ink::Tile { .. } => paint_dots(row, frame.left, s, first, end, ink, |_| true),
     }
 }
 
@@ -157,21 +132,15 @@ pub fn ink_samples(
     i: usize,
     f_min: u16,
     array: &[u8],
-    colour: Colour,
-    tile: &[u8],
+    ink: Ink,
 )
-    ensures { row.new ≡ painted_row (window_of frame) (colour_with colour (words tile.now)) s (λ f. leb f_min f && sample (samples_in (words array.now)) i (f - f_min)) row.old }
+    ensures { row.new ≡ painted_row (window_of frame) (colour_in ink.entry) s (λ f. leb f_min f && sample (samples_in (words array.now)) i (f - f_min)) row.old }
 {
     let left = frame.left as usize;
-    let width = frame.width as usize;
     let from = f_min as usize;
-    let last = after(left, from + word(array, 1) as usize);
-    let end = if last < width { last } else { width };
-    let mut j = after(left, from);
-    while j < end && j / 8 < row.len() {
-        let f = left + j;
-        let m = sample_dot(array, 0, i, f - from);
-        paint_dot(row, j, s, f, m, colour, tile);
-        j += 1;
-    }
+    let first = from.saturating_sub(left);
+    let last = (from + word(array, 1) as usize).saturating_sub(left);
+    let end = last.min(frame.width as usize);
+    let mask = |f| sample_dot(array, 0, i, f - from);
+    paint_dots(row, frame.left, s, first, end, ink, mask);
 }

@@ -3,12 +3,13 @@ use mathlib.Core.Path.{◌≡◌, refl, ap, ◌∙◌, subst}
 use mathlib.Core.Bool.{cond}
 use mathlib.Core.List.{List, [], ◌∷◌}
 use mathlib.Core.Option.{Option, none, some}
-use Prim.Native.Nat.{ℕ, zero, suc, ◌+◌, ◌-◌, ◌<◌, ◌≤◌}
+use Prim.Native.Nat.{ℕ, zero, suc, ◌+◌, ◌-◌, ◌/◌, ◌<◌, ◌≤◌}
 use native.Mathlib.Omega.{arith}
 use borrow.Author.Tests.{le-leb, lt-leb}
 use lib.ListN.{length, drop, length-drop, drop_of_length-le}
 use lib.Seq.{drop-cons}
-use Rattle.film_words.specs.Words.{at}
+use Rattle.film_words.specs.Words.{words, at}
+use Rattle.film_words.proofs.Words.{length-words}
 use Rattle.film_words.specs.Groups.{more, ended, last_run, lines_extent, group_extent}
 
 -- ---- numbers of words, added up
@@ -117,11 +118,6 @@ module _ (ws : List ℕ) where
       let one : suc p ≡ p + 1 = omega arith in
       ap group_extent (drop-cons ws p 0 h) ∙ ap (λ (x : ℕ). more 1 (lines_extent (drop x ws) (at ws p))) one
 
-  -- no group stands past the end
-  pub group-past : (p : ℕ) → length ws ≤ p → group_extent (drop p ws) ≡ none
-  unfolding group_extent
-  group-past p h = ap group_extent (drop_of_length-le ws {i = p} h)
-
   -- ---- the walk over the runs: it stands at place q with n lines to come
 
   -- the group at p takes the words up to q, and then those of n lines
@@ -149,12 +145,17 @@ module _ (ws : List ℕ) where
   walked_next p q n h z l t e = two_on p q n n h e (run_next q n z l t)
 
   -- the words run out
-  pub walked_none : (p q n : ℕ) → 0 < n → length ws - q < 2 → Walked p q n → group_extent (drop p ws) ≡ none
+  pub walked_none : (p q n : ℕ) → Walked p q n → 0 < n → length ws - q < 2 → group_extent (drop p ws) ≡ none
   unfolding Walked
-  walked_none p q n z h e = e ∙ ap (more (q - p)) (run_none q n z h)
+  walked_none p q n e z h = e ∙ ap (more (q - p)) (run_none q n z h)
 
   -- no line is left
-  pub walked-done : (p q n : ℕ) → n ≤ 0 → Walked p q n → group_extent (drop p ws) ≡ some (q - p)
+  pub walked_done : (p q n : ℕ) → Walked p q n → n ≤ 0 → group_extent (drop p ws) ≡ some (q - p)
   unfolding Walked
-  walked-done p q zero z e = e ∙ ap (more (q - p)) (lines-done (drop q ws)) ∙ ap some (omega arith)
-  walked-done p q (suc n) z e = absurd (omega arith)
+  walked_done p q zero e z = e ∙ ap (more (q - p)) (lines-done (drop q ws)) ∙ ap some (omega arith)
+  walked_done p q (suc n) e z = absurd (omega arith)
+
+-- no group stands past the file's end
+pub group_past : (bs : List ℕ) (p : ℕ) → length bs / 2 ≤ p → group_extent (drop p (words bs)) ≡ none
+unfolding group_extent
+group_past bs p h = let l : length (words bs) ≤ p = omega (arith, length-words bs) in ap group_extent (drop_of_length-le (words bs) {i = p} l)

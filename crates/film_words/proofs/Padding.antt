@@ -13,10 +13,11 @@ use lib.Bits.{bit_and, and_mask}
 use lib.ListN.{length, take, drop, drop_of_length-le}
 use lib.Pow.{ones_split, ones_lt}
 use lib.Seq.{get_or-take}
-use Rattle.film_words.specs.Words.{at}
+use Rattle.std.specs.Int.{div_ceil}
+use Rattle.film_words.specs.Words.{words, at}
 use Rattle.film_words.specs.Arrays.{line_words, array_words, array_extent}
 use Rattle.film_words.specs.Padding.{padding_bits, padding, lines_padding_set, padding_set}
-use Rattle.film_words.proofs.Words.{at_drop}
+use Rattle.film_words.proofs.Words.{length-words, at_drop}
 use Rattle.film_words.proofs.Arrays.{array_fits}
 
 -- ---- by lines
@@ -63,21 +64,21 @@ module _ (ws : List ℕ) (p : ℕ) where
   unfolding padding_set
   array_set {lines} {i} w h s = ap (lines_padding_set (drop p ws)) (size_at w) ∙ line_set (drop p ws) i lines s h
 
-  pub array_clear : {lines : ℕ} → lines ≡ at ws p → lines_padding_set (drop p ws) lines ≡ false → padding_set (drop p ws) ≡ false
+  pub array_clear : lines_padding_set (drop p ws) (at ws p) ≡ false → padding_set (drop p ws) ≡ false
   unfolding padding_set
-  array_clear w h = ap (lines_padding_set (drop p ws)) (size_at w) ∙ h
+  array_clear h = ap (lines_padding_set (drop p ws)) (size_at refl) ∙ h
 
   -- its lines are whole words
-  pub array_unpadded : {dots : ℕ} → dots ≡ at ws (p + 1) → dots % 16 ≡ 0 → padding_set (drop p ws) ≡ false
+  pub array_unpadded : at ws (p + 1) % 16 ≡ 0 → padding_set (drop p ws) ≡ false
   unfolding padding_set
-  array_unpadded {dots} d h =
-      let z : padding_bits dots ≡ 0 = omega arith in
-      no_padding (drop p ws) (at (drop p ws) 0) (ap padding_bits (at_drop p ws 1 ∙ sym d) ∙ z)
+  array_unpadded h =
+      let z : padding_bits (at ws (p + 1)) ≡ 0 = omega arith in
+      no_padding (drop p ws) (at (drop p ws) 0) (ap padding_bits (at_drop p ws 1) ∙ z)
 
-  -- no word is there
-  pub array_nowhere : length ws ≤ p → padding_set (drop p ws) ≡ false
-  unfolding padding_set lines_padding_set
-  array_nowhere h = ap padding_set (drop_of_length-le ws {i = p} h)
+-- no word is there
+pub array_nowhere : (bs : List ℕ) (p : ℕ) → length bs / 2 ≤ p → padding_set (drop p (words bs)) ≡ false
+unfolding padding_set lines_padding_set
+array_nowhere bs p h = let l : length (words bs) ≤ p = omega (arith, length-words bs) in ap padding_set (drop_of_length-le (words bs) {i = p} l)
 
 -- the mask of a line's padding, where it has some
 mask_is : (dots : ℕ) → (dots % 16 ≡ 0 → ⊥) → 65535 / 2 ^ (dots % 16) ≡ 2 ^ padding_bits dots - 1
@@ -88,12 +89,12 @@ mask_is dots h =
     ap (λ (n : ℕ). (2 ^ n - 1) / 2 ^ r) s ∙ ap (λ (n : ℕ). n / 2 ^ r) (ones_split (16 - r) r)
     ∙ digits_div (2 ^ (16 - r) - 1) (ones_lt r) ∙ ap (λ (n : ℕ). 2 ^ n - 1) k
 
--- the padding of line i of the array at place p, by the line's last word w; q is the word before the line
-pub padding-at : (ws : List ℕ) (p i dots q w : ℕ) → dots ≡ at ws (p + 1) → (dots % 16 ≡ 0 → ⊥) → q ≡ p + 1 + i * line_words dots
-    → w ≡ at ws (q + line_words dots) → bit_and w (65535 / 2 ^ (dots % 16)) ≡ padding (drop p ws) i
-padding-at ws p i dots q w d h e a =
+-- the padding of line i of the array at place p, by the line's last word w; q is the word before the line, and a line takes n words
+pub padding-at : (ws : List ℕ) (p i dots q n d w : ℕ) → dots ≡ at ws (p + 1) → (dots % 16 ≡ 0 → ⊥) → q ≡ p + 1 + i * line_words dots
+    → d ≡ dots → n ≡ div_ceil d 16 → w ≡ at ws (q + n) → bit_and w (65535 / 2 ^ (dots % 16)) ≡ padding (drop p ws) i
+padding-at ws p i dots q n k w d h e t s a =
     let d' : dots ≡ at (drop p ws) 1 = d ∙ sym (at_drop p ws 1) in
-    let n : q + line_words dots ≡ p + (1 + suc i * line_words dots) = omega (arith, suc-mul i (line_words dots)) in
+    let n : q + n ≡ p + (1 + suc i * line_words dots) = omega (arith, suc-mul i (line_words dots)) in
     let w' : w ≡ at (drop p ws) (1 + suc i * line_words dots) = a ∙ ap (at ws) n ∙ sym (at_drop p ws (1 + suc i * line_words dots)) in
     ap (bit_and w) (mask_is dots h) ∙ and_mask w (padding_bits dots)
     ∙ ap (λ (x : ℕ). x % 2 ^ padding_bits dots) w'

@@ -2,7 +2,7 @@
 use mathlib.Core.Path.{◌≡◌, refl, sym, ap, ap₂, ◌∙◌}
 use mathlib.Core.Bool.{Bool, true, false, cond}
 use mathlib.Core.List.{List, [], ◌∷◌}
-use Prim.Native.Nat.{ℕ, zero, suc, ◌+◌, ◌-◌, ◌*◌, ◌<◌, ◌≤◌}
+use Prim.Native.Nat.{ℕ, zero, suc, ◌+◌, ◌-◌, ◌*◌, ◌/◌, ◌<◌, ◌≤◌}
 use native.Mathlib.Omega.{arith}
 use borrow.Author.Tests.{le-leb, lt-leb}
 use lib.Dec.{leb}
@@ -10,7 +10,7 @@ use lib.ListN.{length, take, drop, length-drop}
 use lib.Seq.{drop-cons, drop-drop, take-take, take-nil, length-take-le}
 use Rattle.film_words.specs.Words.{words, at}
 use Rattle.film_words.specs.Parts.{part_of}
-use Rattle.film_words.proofs.Words.{take_words, drop-words}
+use Rattle.film_words.proofs.Words.{length-words, take_words, drop-words}
 
 -- a part that the file has
 pub part_is : (file : List ℕ) (p e : ℕ) → e ≤ length (words file) → part_of file p e ≡ take (2 * (e - p)) (drop (2 * p) file)
@@ -30,6 +30,15 @@ part_empty file p e h = let z : 2 * (e - p) ≡ 0 = omega arith in rw z (go (leb
     go : (t : Bool) → cond t (take 0 (drop (2 * p) file)) [] ≡ []
     go true = refl
     go false = refl
+
+-- the two, by the file's bytes
+pub part_slice : (file : List ℕ) (p e : ℕ) → e ≤ length file / 2 → part_of file p e ≡ take (2 * e - 2 * p) (drop (2 * p) file)
+part_slice file p e l =
+    let n : 2 * (e - p) ≡ 2 * e - 2 * p = omega arith in
+    part_is file p e (omega (arith, length-words file)) ∙ ap (λ (n : ℕ). take n (drop (2 * p) file)) n
+
+pub part_over : (file : List ℕ) (p e : ℕ) → length file / 2 < e → part_of file p e ≡ []
+part_over file p e h = part_past file p e (omega (arith, length-words file))
 
 -- its words
 pub part_words : (file : List ℕ) (p e : ℕ) → e ≤ length (words file) → words (part_of file p e) ≡ take (e - p) (drop p (words file))

@@ -53,16 +53,16 @@ at_words (a ∷ (b ∷ bs)) (suc i) h =
     three-more i = omega arith
 
 -- past the end each word is 0
-pub at-past : (bs : List ℕ) (p : ℕ) → length (words bs) ≤ p → at (words bs) p ≡ 0
-at-past bs p h = get_or-eq_default (words bs) 0 h
+pub at_past : (bs : List ℕ) (p : ℕ) → length bs / 2 ≤ p → at (words bs) p ≡ 0
+at_past bs p h = get_or-eq_default (words bs) 0 (omega (arith, length-words bs))
 
 -- the long number at place p, by its two places
 pub long_is : (ws : List ℕ) (p : ℕ) → long_at ws p ≡ at ws p + 65536 * at ws (p + 1)
 long_is ws p = let one : suc p ≡ p + 1 = omega arith in ap (λ (x : ℕ). at ws p + 65536 * at ws x) one
 
 -- past the end each long number is 0
-pub long_past : (bs : List ℕ) (p : ℕ) → length (words bs) ≤ p → long_at (words bs) p ≡ 0
-long_past bs p h = ap₂ (λ (x y : ℕ). x + 65536 * y) (at-past bs p h) (at-past bs (suc p) (omega arith))
+pub long_past : (bs : List ℕ) (p : ℕ) → length bs / 2 ≤ p → long_at (words bs) p ≡ 0
+long_past bs p h = ap₂ (λ (x y : ℕ). x + 65536 * y) (at_past bs p h) (at_past bs (suc p) (omega arith))
 
 -- ---- places
 

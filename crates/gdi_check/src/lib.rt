@@ -8,13 +8,7 @@ ghost use Rattle.gdi_check.specs.Functions.{Bounded};
 
 use gdi_jobs::{HEAD, LONGEST};
 use gdi_parse::{Group, Next, group_at, next_at};
-
-// The number of pages, or a refusal's number and place.
-#[derive(Clone, Copy)]
-pub enum Checked {
-    Pages(usize),
-    Refused(u8, usize),
-}
+use refusal::{Fault, Refusal};
 
 // In a page: the pages before it, its width and height, its whole lines, the sum of the commands of the next, the bytes left of the block.
 #[derive(Clone, Copy)]
@@ -34,23 +28,21 @@ enum State {
     InPage(Page),
 }
 
-// On to a state, past so many bytes; or the number of pages; or a refusal's number and its place from here.
+// On to a state, past so many bytes; or the number of pages.
 #[derive(Clone, Copy)]
 enum Step {
     Onward(State, usize),
     Done(usize),
-    Stop(u8, usize),
 }
 
-// A step between pages.
-#[tactic(auto, using(crate::proofs::Ends::bytes_after, crate::proofs::Ends::none_after))]
-fn step_between(job: &[u8], at: usize, pages: usize) -> Step
-    requires { at ≤ length job.now }
+// A step between pages. The place of a refusal is counted from `at`.
+#[tactic(auto, unfolding(gdi_jobs::specs::Jobs::step))]
+fn step_between(job: &[u8], at: usize, pages: usize) -> Result<Step, Refusal>
     ensures { step_of result ≡ step (between pages) (drop at job.now) }
 {
-    let n = job.len() - at;
+    let n = job.len().saturating_sub(at);
     match group_at(job, at) {
-        Group::Cut => Step::Stop(24, n),
+        Group::Cut => Err(Fault::JobEnds.at(n)),
         Group::PageHead(width, height) => {
             let page = Page {
                 pages,
@@ -60,31 +52,12 @@ fn step_between(job: &[u8], at: usize, pages: usize) -> Step
                 sum: 0,
                 left: 0,
             };
-            Step::Onward(State::InPage(page), 21)
+            Ok(Step::Onward(State::InPage(page), 21))
         }
-        Group::WrongPageHead => Step::Stop(22, 0),
-        Group::DocumentEnd => {
-            if n > 6 {
-                Step::Stop(26, 6)
-            } else {
-                Step::Done(pages)
-            }
-        }
-        _ => Step::Stop(23, 0),
-    }
-}
-
-// The page with other counts.
-fn counted(page: Page, lines: usize, sum: usize, left: usize) -> Page
-    ensures { state_of (State.InPage result) ≡ in_page page.pages page.width page.height lines sum left }
-{
-    Page {
-        pages: page.pages,
-        width: page.width,
-        height: page.height,
-        lines,
-        sum,
-        left,
+        Group::WrongPageHead => Err(Fault::PageHead.at(0)),
+        Group::DocumentEnd if n > 6 => Err(Fault::BytesAfter.at(6)),
+        Group::DocumentEnd => Ok(Step::Done(pages)),
+        _ => Err(Fault::UnexpectedGroup.at(0)),
     }
 }
 
@@ -94,36 +67,43 @@ fn after_command(page: Page, dots: usize, left: usize) -> Page
     ensures { state_of (State.InPage result) ≡ with_sum page.pages page.width page.height page.lines (page.sum + dots) left }
 {
     let sum = page.sum + dots;
-    if sum >= page.width {
-        counted(page, page.lines + 1, 0, left)
+    let (lines, sum) = if sum < page.width {
+        (page.lines, sum)
     } else {
-        counted(page, page.lines, sum, left)
+        (page.lines + 1, 0)
+    };
+    Page {
+        lines,
+        sum,
+        left,
+        ..page
     }
 }
 
-// A step in a page.
-fn step_in_page(job: &[u8], at: usize, page: Page) -> Step
+// A step in a page. The place of a refusal is counted from `at`.
+#[tactic(auto, unfolding(gdi_jobs::specs::Jobs::step))]
+fn step_in_page(job: &[u8], at: usize, page: Page) -> Result<Step, Refusal>
     requires { Bounded (state_of (State.InPage page)) at × (at ≤ longest) }
     ensures { step_of result ≡ step (state_of (State.InPage page)) (drop at job.now) }
 {
     let full = page.lines == page.height;
-    match next_at(job, at, page.left, full, full) {
-        Next::ToBlock(size) => Step::Onward(
-            State::InPage(counted(page, page.lines, page.sum, size)),
-            6,
-        ),
-        Next::ToEnd => Step::Onward(State::Between(page.pages + 1), 6),
-        Next::ToCommand(_, dots, n) => Step::Onward(
-            State::InPage(after_command(page, dots, page.left - n)),
-            n,
-        ),
-        Next::Fault(number, i) => Step::Stop(number, i),
+    match next_at(job, at, page.left, full, full)? {
+        Next::ToBlock(size) => {
+            let page = Page { left: size, ..page };
+            Ok(Step::Onward(State::InPage(page), 6))
+        }
+        Next::ToEnd => Ok(Step::Onward(State::Between(page.pages + 1), 6)),
+        Next::ToCommand { dots, bytes, .. } => {
+            let page = after_command(page, dots, page.left - bytes);
+            Ok(Step::Onward(State::InPage(page), bytes))
+        }
     }
 }
 
-// A step at place `at`.
-fn step_at(job: &[u8], at: usize, state: State) -> Step
-    requires { Bounded (state_of state) at × (at ≤ length job.now) × (length job.now ≤ longest) }
+// A step at place `at`. The place of a refusal is counted from there.
+#[tactic(auto, unfolding(gdi_jobs::specs::Jobs::step))]
+fn step_at(job: &[u8], at: usize, state: State) -> Result<Step, Refusal>
+    requires { Bounded (state_of state) at × (at ≤ longest) }
     ensures { step_of result ≡ step (state_of state) (drop at job.now) }
 {
     match state {
@@ -133,42 +113,38 @@ fn step_at(job: &[u8], at: usize, state: State) -> Step
 }
 
 // The walk over what comes after the head.
-fn walk_pages(job: &[u8]) -> Checked
+fn walk_pages(job: &[u8]) -> Result<usize, Refusal>
     requires { (86 ≤ length job.now) × (length job.now ≤ longest) }
     ensures { checked_as result ≡ walk (between 0) 0 86 (drop 86 job.now) }
 {
-    let mut at = 86;
+    let mut at = HEAD.len();
     let mut state = State::Between(0);
     while at < job.len() {
         match step_at(job, at, state) {
-            Step::Onward(next, n) => {
+            Ok(Step::Onward(next, n)) => {
                 state = next;
                 at += n;
             }
-            Step::Done(pages) => return Checked::Pages(pages),
-            Step::Stop(number, i) => return Checked::Refused(number, at + i),
+            Ok(Step::Done(pages)) => return Ok(pages),
+            Err(r) => return Err(r.fault.at(at + r.place)),
         }
     }
-    Checked::Refused(24, at)
+    Err(Fault::JobEnds.at(at))
 }
 
 // The check of a job: the first refusal, or how many pages there are.
 #[tactic(auto, using(crate::proofs::Ends::long_refused))]
-pub fn check_job(job: &[u8]) -> Checked
+pub fn check_job(job: &[u8]) -> Result<usize, Refusal>
     ensures { checked_as result ≡ job_answer job.now }
 {
     if job.len() > LONGEST {
-        return Checked::Refused(1, 0);
+        return Err(Fault::Length.at(0));
     }
-    let mut i = 0;
-    while i < 86 {
-        if job.len() <= i {
-            return Checked::Refused(24, i);
-        }
-        if job[i] != HEAD[i] {
-            return Checked::Refused(21, i);
-        }
-        i += 1;
+    if let Some(i) = HEAD.iter().zip(job).position(|(want, byte)| byte != want) {
+        return Err(Fault::JobHead.at(i));
+    }
+    if job.len() < HEAD.len() {
+        return Err(Fault::JobEnds.at(job.len()));
     }
     walk_pages(job)
 }

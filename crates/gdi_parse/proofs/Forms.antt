@@ -1,23 +1,55 @@
--- Laws of forms: bytes held against a form one by one, and the numbers in a group, by place. Assumes nothing.
-use mathlib.Core.Path.{◌≡◌, refl, sym, ap, ap₂, ◌∙◌}
+-- Laws of forms: the code's walk over a form and bytes, against that of the definitions. Assumes nothing.
+use mathlib.Core.Path.{◌≡◌, refl}
 use mathlib.Core.Bool.{Bool, true, false, ◌&&◌, ◌||◌}
-use mathlib.Core.List.{List}
-use Prim.Native.Nat.{ℕ, suc, ◌+◌, ◌-◌, ◌*◌, ◌<◌, ◌≤◌}
+use mathlib.Core.List.{List, [], ◌∷◌}
+use Prim.Native.Nat.{ℕ, suc, ◌+◌, ◌-◌, ◌<◌, ◌≤◌}
 use native.Mathlib.Numerals.{add-one}
 use native.Mathlib.Omega.{arith}
-use lib.Dec.{eqb}
+use borrow.Author.Tests.{ne_eqb, ltb-true}
+use lib.Dec.{eqb, ltb}
 use lib.ListN.{length, get_or, drop, drop_of_length-le}
-use lib.Seq.{drop-cons, get_or-drop}
-use Rattle.gdi_jobs.specs.Groups.{any, fits, number_at}
+use lib.Seq.{drop-cons}
+use Rattle.std.specs.Prelude.{Option, Some, None, map}
+use Rattle.std.specs.List.{zip, list_all}
+use Rattle.gdi_jobs.specs.Groups.{any, fits}
+use Rattle.gdi_parse.specs.Forms.{byte_of, all_bytes}
+
+-- ---- the code's walk over a form and bytes
+
+-- whether a form allows a byte
+abbrev pub allows : Option ℕ × ℕ → Bool
+allows (None, b) = true
+allows (Some want, b) = eqb b want
+
+both : (s t : Bool) → (s && t) ≡ true → (s ≡ true) × (t ≡ true)
+both true t e = (refl, e)
+both false t e = absurd (let z : ◌≡◌ {A = ℕ} 0 1 = cc in omega arith)
+
+pub all-fit : (form : List (Option ℕ)) (bytes : List ℕ) → all_bytes form ≡ true → length form ≤ length bytes
+    → list_all allows (zip form bytes) ≡ fits (map byte_of form) bytes
+unfolding fits
+all-fit [] bytes h l = refl
+all-fit (x ∷ form) [] h l = absurd (omega arith)
+all-fit (None ∷ form) (b ∷ bytes) h l = all-fit form bytes h (omega arith)
+all-fit (Some w ∷ form) (b ∷ bytes) h l =
+    let p = both (ltb w 256) (all_bytes form) h in
+    let n : eqb w any ≡ false = ne_eqb w any (λ e. omega (arith, ltb-true w 256 p.0)) in
+    rw (n, all-fit form bytes p.1 (omega arith)) refl
+
+pub short-fit : (form : List (Option ℕ)) (bytes : List ℕ) → length bytes < length form → fits (map byte_of form) bytes ≡ false
+unfolding fits
+short-fit [] bytes l = absurd (omega arith)
+short-fit (x ∷ form) [] l = refl
+short-fit (x ∷ form) (b ∷ bytes) l = rw (short-fit form bytes (omega arith)) (and-false _)
+  where
+    and-false : (t : Bool) → (t && false) ≡ false
+    and-false true = refl
+    and-false false = refl
 
 -- ---- a form and the bytes from place `at` on, from their i-th on
 
 unfoldable pub fits_from : (job : List ℕ) (at : ℕ) (form : List ℕ) (i : ℕ) → Bool
 fits_from job at form i = fits (drop i form) (drop (at + i) job)
-
-pub fits-first : (job : List ℕ) (at : ℕ) (form : List ℕ) → fits form (drop at job) ≡ fits_from job at form 0
-unfolding fits_from
-fits-first job at form = let e : at ≡ at + 0 = omega arith in ap (λ (k : ℕ). fits form (drop k job)) e
 
 module _ (job : List ℕ) (at : ℕ) (form : List ℕ) (i : ℕ) where
   -- the form has no more
@@ -39,10 +71,3 @@ module _ (job : List ℕ) (at : ℕ) (form : List ℕ) (i : ℕ) where
   fits_byte t h l e =
       let n : suc (at + i) ≡ at + (i + 1) = omega arith in
       rw (drop-cons form i 0 h, drop-cons job (at + i) 0 l, e, n, add-one i) refl
-
--- ---- the numbers in a group
-
-pub number-drop : (job : List ℕ) (at i : ℕ) → number_at job (at + i) ≡ number_at (drop at job) i
-number-drop job at i =
-    let n : at + i + 1 ≡ at + (i + 1) = omega arith in
-    ap₂ (λ (x y : ℕ). x + 256 * y) (sym (get_or-drop at job i 0)) (ap (λ (k : ℕ). get_or job k 0) n ∙ sym (get_or-drop at job (i + 1) 0))

@@ -1,3 +1,2 @@
--- The laws of forms and of fields, for the proofs of this crate. Those of commands and groups are in crates/gdi_jobs/proofs.
+-- The laws of forms, for the proofs of this crate.
 pub mod Forms
-pub mod Fields

@@ -18,11 +18,18 @@ use Rattle.gdi_jobs.specs.Groups.{admitted}
 use Rattle.gdi_jobs.specs.Jobs.{longest}
 use Rattle.gdi_jobs.specs.Lines.{Line, line, page_end, refused, line_dot, line_bytes, line_row, line_at, row_after, LineAnswer, next_line, refusal, answer_of}
 use Rattle.gdi_jobs.proofs.Groups.{never, admitted_is}
+use Rattle.std.specs.Prelude.{Result, Ok, Err}
+use Rattle.std.specs.Int.{div_ceil}
+use Rattle.refusal.specs.declared.Refusal.{Refusal}
 use Rattle.gdi_read.specs.Answers.{line_read_as}
 use Rattle.gdi_read.specs.declared.LineRead as code
 use Rattle.gdi_read.specs.declared.LineRead.TheVariants as variants
 use Rattle.gdi_read.specs.Functions.{Passed}
 use Rattle.gdi_read.proofs.Reading.{line_on}
+
+-- a row's bytes, as the code counts them
+pub rounded_up : (width : ℕ) {n : ℕ} → n ≡ div_ceil width 8 → (width + 7) / 8 ≡ n
+rounded_up width e = omega (arith, e)
 
 -- ---- the refusals before the pass
 
@@ -64,26 +71,30 @@ unfolding row_after
 refused_so width l held number place e = (sym (ap answer_of e), rw e refl)
 
 -- at a page end and after a refusal the row stays
-stays : (width : ℕ) (l : Line) (held : List ℕ) (r : code.LineRead) → ((q k : ℕ) → r ≡ variants.Line q k → ⊥) → line_read_as r ≡ answer_of l
+stays : (width : ℕ) (l : Line) (held : List ℕ) (r : Result code.LineRead Refusal) → ((q k : ℕ) → r ≡ Ok (variants.Line q k) → ⊥) → line_read_as r ≡ answer_of l
     → held ≡ row_after width l held
 unfolding row_after
-stays width (line cs p left) held (variants.Line q k) o e = absurd (o q k refl)
-stays width (line cs p left) held (variants.PageEnd q k) o e = never (cc)
-stays width (line cs p left) held (variants.Refused number q) o e = never (cc)
+stays width (line cs p left) held (Ok (variants.Line q k)) o e = absurd (o q k refl)
+stays width (line cs p left) held (Ok (variants.PageEnd q k)) o e = never (cc)
+stays width (line cs p left) held (Err f) o e = never (cc)
 stays width (page_end p) held r o e = refl
 stays width (refused number p) held r o e = refl
 
 -- the first pass gives r
-module _ (width : ℕ) (l k : Line) (held row : List ℕ) (r : code.LineRead) (e : l ≡ k) (first : Passed width k false held (line_read_as r) row) where
+module _ (width : ℕ) (l k : Line) (held row : List ℕ) (r : Result code.LineRead Refusal) (e : l ≡ k) (first : Passed width k false held (line_read_as r) row) where
   told_so : line_read_as r ≡ answer_of l
   told_so = first.answer ∙ ap answer_of (sym e)
 
   -- which is no line
-  pub other_so : ((q k : ℕ) → r ≡ variants.Line q k → ⊥) → Answered width l held (line_read_as r) row
+  pub other_so : ((q k : ℕ) → r ≡ Ok (variants.Line q k) → ⊥) → Answered width l held (line_read_as r) row
   other_so o = (told_so, first.kept refl ∙ stays width l held r o told_so)
 
-  -- which is a line, so that the second pass writes it, and then what is past the width is cleared
-  pub line_so : (q left : ℕ) (a : LineAnswer) (written row' : List ℕ) → r ≡ variants.Line q left → Passed width k true row a written
+  -- which is a line, so that the second pass gives one too
+  pub same_line : (q left : ℕ) (f : Refusal) (written : List ℕ) → r ≡ Ok (variants.Line q left) → Passed width k true row (line_read_as (Err f)) written → ⊥
+  same_line q left f written y second = let z : next_line q left ≡ line_read_as (Err f) = ap line_read_as (sym y) ∙ first.answer ∙ sym second.answer in never (cc)
+
+  -- the second pass writes, and then what is past the width is cleared
+  pub line_so : (q left : ℕ) (a : LineAnswer) (written row' : List ℕ) → r ≡ Ok (variants.Line q left) → Passed width k true row a written
       → length written ≡ (width + 7) / 8 → row' ≡ row_of (length written) (filled width (8 * length written) false (dot_at written))
       → Answered width l held (next_line q left) row'
   unfolding row_after line_row line_bytes

@@ -18,7 +18,10 @@ use Rattle.gdi_jobs.specs.Pages.{to_command, next}
 use Rattle.gdi_jobs.specs.Lines.{Line, line, page_end, refused, line_dot, with_command, line_from, next_line, after_page, refusal, answer_of}
 use Rattle.gdi_parse.specs.Answers.{next_of}
 use Rattle.gdi_parse.specs.declared.Next as code
-use Rattle.gdi_parse.specs.declared.Next.TheVariants.{ToBlock, ToEnd, ToCommand, Fault}
+use Rattle.gdi_parse.specs.declared.Next.TheVariants.{ToBlock, ToEnd, ToCommand}
+use Rattle.refusal.specs.declared.Refusal.{Refusal}
+use Rattle.refusal.specs.Faults.{number_of}
+use Rattle.std.specs.Prelude.{Result, Ok, Err}
 use Rattle.gdi_jobs.proofs.Groups.{never}
 use Rattle.gdi_jobs.proofs.Pages.{next_block, next_end, next-command, next-command_dots, next_fault}
 use Rattle.gdi_jobs.proofs.Lines.{line_block, line_end, line_last, line_command, line_fault}
@@ -127,9 +130,9 @@ module _ {job : List ℕ} {offset left₀ width : ℕ} {held : List ℕ} {write 
   read_out h = read_none (refused 24 p) (ap (line_from width started sum left 0 p) (drop_of_length-le job {i = p} h)) (λ q k z. never (cc))
 
   -- `next_at` gives r
-  module _ (r : code.Next) (x : next_of r ≡ next false (not started) left (drop p job)) where
+  module _ (r : Result code.Next Refusal) (x : next_of r ≡ next false (not started) left (drop p job)) where
     -- a block
-    pub read_block : (size : ℕ) → r ≡ ToBlock size → ReadTo job offset left₀ width held write row (p + 6) size sum started
+    pub read_block : (size : ℕ) → r ≡ Ok (ToBlock size) → ReadTo job offset left₀ width held write row (p + 6) size sum started
     read_block size y =
         let e = sym x ∙ ap next_of y in
         let b = next_block false (not started) left (drop p job) size e in
@@ -145,7 +148,7 @@ module _ {job : List ℕ} {offset left₀ width : ℕ} {held : List ℕ} {write 
         }
 
     -- a command of n dots in k bytes
-    module _ (black : Bool) (n k : ℕ) (y : r ≡ ToCommand black n k) where
+    module _ (black : Bool) (n k : ℕ) (y : r ≡ Ok (ToCommand black n k)) where
       came : next false (not started) left (drop p job) ≡ to_command (run black n) k
       came = sym x ∙ ap next_of y
 
@@ -206,7 +209,7 @@ module _ {job : List ℕ} {offset left₀ width : ℕ} {held : List ℕ} {write 
             }
 
     -- the page's end
-    pub read_end : r ≡ ToEnd → (p + 6 ≤ length job) × Passed width (line_on job width false 0 left₀ offset) write held (after_page (p + 6) 0) row
+    pub read_end : r ≡ Ok ToEnd → (p + 6 ≤ length job) × Passed width (line_on job width false 0 left₀ offset) write held (after_page (p + 6) 0) row
     read_end y =
         let e = sym x ∙ ap next_of y in (
           omega (arith, (next_end false (not started) left (drop p job) e).1, length-drop p job, w.inside),
@@ -214,10 +217,12 @@ module _ {job : List ℕ} {offset left₀ width : ℕ} {held : List ℕ} {write 
         )
 
     -- a refusal
-    pub read_fault : (number i : ℕ) → r ≡ Fault number i
-        → (p + i ≤ length job) × Passed width (line_on job width false 0 left₀ offset) write held (refusal number (p + i)) row
-    read_fault number i y =
+    pub read_fault : (f : Refusal) → r ≡ Err f
+        → (p + f.place ≤ length job) × Passed width (line_on job width false 0 left₀ offset) write held (refusal (number_of f.fault) (p + f.place)) row
+    read_fault f y =
+        let number = number_of f.fault in
+        let i = f.place in
         let e = sym x ∙ ap next_of y in (
           omega (arith, next_fault false (not started) left (drop p job) number i e, length-drop p job, w.inside),
-          read_none (refused number (p + i)) (line_fault width started sum left p (drop p job) number i e) (λ q l z. never (cc)),
+          read_none (refused number (p + i)) (line_fault width started sum left p (drop p job) number i e) (λ q k z. never (cc)),
         )

@@ -11,12 +11,24 @@ ghost use Rattle.gdi_write.specs.Answers.{written_as};
 ghost use Rattle.gdi_rows.specs.Places.{put_at};
 
 use gdi_jobs::WIDEST;
-use gdi_write::Written;
+use refusal::{Fault, Refusal};
 
 // The only refusal of the row writer: of the width, of the row, and then of the output.
-const REFUSED: Written = Written::Refused(27, 0);
+const REFUSED: Refusal = Refusal {
+    fault: Fault::Writing,
+    place: 0,
+};
 
-// Puts the bytes at place `at` of the output, where it has room for them.
+// A width that a row may have, in dots.
+#[derive(Clone, Copy)]
+struct Width {
+    dots: usize,
+    ghost some: { 1 ≤ dots },
+    ghost most: { dots ≤ 16383 },
+}
+
+// Puts the bytes at place `at` of the output, where it has room for them. Not by get_mut: a proof has no name for the output after it.
+#[tactic(auto, using(crate::proofs::Places::put_past, crate::proofs::Places::put_part))]
 fn put_at(bytes: &[u8], at: usize, output: &mut [u8])
     ensures { output.new ≡ put_at bytes.now at output.old }
 {
@@ -34,6 +46,7 @@ fn put_block_head(size: usize, at: usize, output: &mut [u8])
 }
 
 // How many bytes the command of a run has.
+#[tactic(auto, unfolding(gdi_jobs::specs::Rows::command_bytes))]
 fn command_size(dots: usize) -> usize
     ensures { (black : Bool) → result ≡ length (command_bytes (run black dots)) }
 {
@@ -44,10 +57,11 @@ fn command_size(dots: usize) -> usize
 fn colour_bit(black: bool) -> u8
     ensures { result ≡ 64 * bit black }
 {
-    if black { 64 } else { 0 }
+    64 * u8::from(black)
 }
 
 // Puts the command of a run at place `at` of the output.
+#[tactic(auto, unfolding(gdi_jobs::specs::Rows::command_bytes))]
 fn put_command(black: bool, dots: usize, at: usize, output: &mut [u8])
     requires { dots ≤ 16383 }
     ensures { output.new ≡ put_at (command_bytes (run black dots)) at output.old }
@@ -78,30 +92,30 @@ fn block_for(b: Block, n: usize) -> Block
     ensures size_value { result.size ≡ cond (leb (b.size + n) 255) (b.size + n) n }
 {
     if b.size + n <= 255 {
-        return Block {
-            head: b.head,
+        Block {
             size: b.size + n,
-        };
-    }
-    Block {
-        head: b.head + 6 + b.size,
-        size: n,
+            ..b
+        }
+    } else {
+        Block {
+            head: b.head + 6 + b.size,
+            size: n,
+        }
     }
 }
 
 // Goes over the runs of the row and puts the line's blocks at the beginning of the output, as far as it has room for them. Answers how many
 // bytes the line has.
-fn put_runs(row: &[u8], width: usize, output: &mut [u8]) -> usize
-    requires { width ≤ 16383 }
-    ensures value { result ≡ length (row_bytes width row.now) }
-    ensures output_after { length (row_bytes width row.now) ≤ length output.old
-        → output.new ≡ row_bytes width row.now ++ drop (length (row_bytes width row.now)) output.old }
+fn put_runs(row: &[u8], width: Width, output: &mut [u8]) -> usize
+    ensures value { result ≡ length (row_bytes width.dots row.now) }
+    ensures output_after { length (row_bytes width.dots row.now) ≤ length output.old
+        → output.new ≡ row_bytes width.dots row.now ++ drop (length (row_bytes width.dots row.now)) output.old }
 {
     let mut block = Block { head: 0, size: 0 };
     let mut from = 0;
     put_block_head(0, 0, output);
-    while from < width {
-        let end = row_runs::run_end(row, from, width);
+    while from < width.dots {
+        let end = row_runs::run_end(row, from, width.dots);
         let dots = end - from;
         let n = command_size(dots);
         block = block_for(block, n);
@@ -118,55 +132,43 @@ fn put_runs(row: &[u8], width: usize, output: &mut [u8]) -> usize
 }
 
 // Whether the row has just the bytes of its width, and no spare bit is set.
-fn fits_width(row: &[u8], width: usize) -> bool
-    requires { width ≤ 16383 }
-    ensures { result ≡ fits_width row.now width }
+#[tactic(auto, unfolding(gdi_jobs::specs::Writers::fits_width, gdi_jobs::specs::Lines::line_bytes))]
+fn fits_width(row: &[u8], width: Width) -> bool
+    ensures { result ≡ fits_width row.now width.dots }
 {
-    if row.len() != (width + 7) / 8 {
-        return false;
-    }
-    row_runs::spare_clear(row, width)
+    row.len() == width.dots.div_ceil(8) && row_runs::spare_clear(row, width.dots)
 }
 
 // The bytes that a line of this width never needs more of.
-fn row_room(width: usize) -> usize
-    requires { width ≤ 16383 }
-    ensures { result ≡ row_room width }
+#[tactic(auto, unfolding(gdi_jobs::specs::Room::row_room))]
+fn row_room(width: Width) -> usize
+    ensures { result ≡ row_room width.dots }
 {
-    width + 6 * ((width + 254) / 255)
+    width.dots + 6 * width.dots.div_ceil(255)
 }
 
 // Whether an output of `room` bytes is long enough for the line. Where it is for any line of this width, the row is not looked at.
-fn has_room(row: &[u8], width: usize, room: usize) -> bool
-    requires { (1 ≤ width) × (width ≤ 16383) }
-    ensures { result ≡ leb (length (row_bytes width row.now)) room }
+#[tactic(auto, using(crate::proofs::Refusals::room_yes))]
+fn has_room(row: &[u8], width: Width, room: usize) -> bool
+    ensures { result ≡ leb (length (row_bytes width.dots row.now)) room }
 {
-    if row_room(width) <= room {
-        return true;
-    }
-    // No block fits one byte, so that nothing is put there: the line is only measured.
-    let mut no_room = [0u8; 1];
-    put_runs(row, width, &mut no_room) <= room
+    // Nothing is put into no bytes: there the line is only measured.
+    row_room(width) <= room || put_runs(row, width, &mut []) <= room
 }
 
 // Puts a row of the given width, as a line, at the beginning of the output, and answers how many bytes the line has; the bytes of the output beyond
-// them stay. After a refusal the output is whole as it was.
-#[tactic(auto, using(crate::proofs::Widths::wide_answer, crate::proofs::Widths::wide_output))]
-pub fn write_row(width: usize, row: &[u8], output: &mut [u8]) -> Written
+// them stay. It is refused for the width, the row, and then the output, which is whole as it was after a refusal.
+#[tactic(auto, unfolding(gdi_jobs::specs::Writers::row_writing, gdi_jobs::specs::Groups::admitted))]
+pub fn write_row(width: usize, row: &[u8], output: &mut [u8]) -> Result<usize, Refusal>
     ensures result_value { written_as result ≡ answer_of (row_writing width row.now (length output.old)) }
     ensures output_after { output.new ≡ output_after (row_writing width row.now (length output.old)) output.old }
 {
-    if width < 1 {
-        return REFUSED;
+    if !(1..=WIDEST).contains(&width) {
+        return Err(REFUSED);
     }
-    if width > WIDEST {
-        return REFUSED;
+    let width = Width { dots: width };
+    if !fits_width(row, width) || !has_room(row, width, output.len()) {
+        return Err(REFUSED);
     }
-    if !fits_width(row, width) {
-        return REFUSED;
-    }
-    if !has_room(row, width, output.len()) {
-        return REFUSED;
-    }
-    Written::Bytes(put_runs(row, width, output))
+    Ok(put_runs(row, width, output))
 }

@@ -1,31 +1,16 @@
--- Laws of what a writer writes or refuses, and of what it answers then. Assumes nothing.
-use mathlib.Core.Path.{◌≡◌, refl, sym, ap, ◌∙◌}
+-- Laws of what a writer writes or refuses. Assumes nothing.
+use mathlib.Core.Path.{◌≡◌, refl}
 use mathlib.Core.Bool.{true, false}
-use mathlib.Core.List.{List, ◌++◌}
+use mathlib.Core.List.{List}
 use Prim.Native.Nat.{ℕ, ◌<◌, ◌≤◌}
 use borrow.Author.Tests.{le-leb, lt-leb}
-use lib.ListN.{length, drop}
+use lib.ListN.{length}
 use Rattle.truth.proofs.Tests.{is_false}
 use Rattle.gdi_jobs.specs.Groups.{admitted, fields}
-use Rattle.gdi_jobs.specs.Writers.{Writing, writes, refuses, in_room, PageHead, page_head_bytes, page_head_writing, WriteAnswer, wrote, refused, answer_of, output_after, linefill_of}
+use Rattle.gdi_jobs.specs.Writers.{writes, refuses, in_room, PageHead, page_head_bytes, page_head_writing, linefill_of}
 use Rattle.gdi_jobs.proofs.Groups.{admitted_is}
 use Rattle.gdi_write.specs.Paper.{command, fill_answer}
 use Rattle.gdi_write.specs.Paper as paper
-
--- ---- the answer
-
--- of a writer that refuses, and of one that writes
-pub refusing : (w : Writing) (held : List ℕ) {number place : ℕ} → w ≡ refuses number place → (refused number place ≡ answer_of w) × (held ≡ output_after w held)
-refusing w held e = (sym (ap answer_of e), sym (ap (λ (x : Writing). output_after x held) e))
-
-pub writing : (w : Writing) (held bytes : List ℕ) {out : List ℕ} {n : ℕ} → w ≡ writes bytes → n ≡ length bytes → out ≡ bytes ++ drop (length bytes) held
-    → (wrote n ≡ answer_of w) × (out ≡ output_after w held)
-writing w held bytes e l o = (ap wrote l ∙ sym (ap answer_of e), o ∙ sym (ap (λ (x : Writing). output_after x held) e))
-
--- of two that write the same
-pub same-writing : {v w : Writing} (held : List ℕ) {out : List ℕ} {answer : WriteAnswer} → v ≡ w
-    → (answer ≡ answer_of v) × (out ≡ output_after v held) → (answer ≡ answer_of w) × (out ≡ output_after w held)
-same-writing held e h = (h.0 ∙ ap answer_of e, h.1 ∙ ap (λ (x : Writing). output_after x held) e)
 
 -- ---- room in the output
 

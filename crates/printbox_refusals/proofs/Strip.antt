@@ -8,11 +8,11 @@ use lib.ListN.{length, take}
 use Rattle.strip.specs.declared.Receiver.{Receiver}
 use Rattle.strip.specs.declared.Phase.{Phase}
 use Rattle.strip.specs.declared.Phase.TheVariants.{Hunt, Mark, Command, Indicator, Low, High, Body, SumLow, SumHigh, ClockFirst, ClockSecond}
-use Rattle.strip.specs.declared.Answer.{Answer}
+use Rattle.refusal.specs.Faults.{number_of}
 use Rattle.strip.specs.Packets.{fitting, number}
 use Rattle.strip.specs.Coding.{Expansion, whole, cut, expand}
 use Rattle.strip.specs.Actions.{Action, initialize, add, end_page, print, inquire, refuse, action, of_expansion}
-use Rattle.strip.specs.Step.{After, carried, taken, unusable, step_in}
+use Rattle.strip.specs.Step.{After, Answered, carried, taken, unusable, step_in}
 use Rattle.strip_numbers.specs.declared.StripRecord.{StripRecord}
 use Rattle.strip_numbers.specs.Numbers.{receiver_of, answer_of, Outcome, number_step}
 use Rattle.printbox_refusals.specs.Refusals.{among, gives, strip_refusals, of_strip}
@@ -26,7 +26,7 @@ ActionIn (add band) = Unit {0}
 ActionIn end_page = Unit {0}
 ActionIn (print palette margins density) = Unit {0}
 ActionIn inquire = Unit {0}
-ActionIn (refuse n) = among strip_refusals n ≡ true
+ActionIn (refuse f) = among strip_refusals (number_of f) ≡ true
 
 expansion_in : (e : Expansion) → ActionIn (of_expansion e)
 unfolding among
@@ -46,7 +46,7 @@ action_in n c i body s l h =
 
 -- ---- an answer: no refusal, or one of these at place 0
 
-abbrev AnswerIn : Answer → Type 0
+abbrev AnswerIn : Answered → Type 0
 AnswerIn a = (gives strip_refusals (of_strip (answer_of a)) ≡ true) × ((answer_of a).place ≡ 0)
 
 abbrev OutcomeIn : Outcome → Type 0
@@ -62,7 +62,7 @@ carried_in r (add band) bs ds i = (refl, refl)
 carried_in r end_page bs ds i = (refl, refl)
 carried_in r (print palette margins density) bs ds i = (refl, refl)
 carried_in r inquire bs ds i = (refl, refl)
-carried_in r (refuse n) bs ds i = (i, refl)
+carried_in r (refuse f) bs ds i = (i, refl)
 
 taken_in : (ph : Phase) (r : Receiver) (b : ℕ) (bs ds : List ℕ) → AfterIn (taken ph r b bs ds)
 unfolding gives among

@@ -1,4 +1,4 @@
--- Laws (when a call is refused with 36); and the statement about streams, proved: Machine (the plain reading byte by byte), Refines (one byte of a
+-- Laws (that a call with room is not refused with 36); and the statement about streams, proved: Machine (the plain reading byte by byte), Refines (one byte of a
 -- record), Streams, and Witness (that whatever comes makes a stream).
 pub mod Laws
 pub mod Machine

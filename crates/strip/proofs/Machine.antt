@@ -8,6 +8,7 @@ use borrow.Author.Tests.{lt-ltb, le-ltb, ltb-true, ltb-false}
 use lib.Dec.{eqb, ltb}
 use lib.ListN.{length, get_or, take, drop, length-append, length-drop}
 use lib.Seq.{drop-drop}
+use Rattle.refusal.specs.declared.Fault.TheVariants as fault
 use Rattle.strip.specs.Packets.{fitting, number}
 use Rattle.strip.specs.Actions.{Action, initialize, add, end_page, print, inquire, refuse}
 use Rattle.strip.specs.Reading.{Bands, Place, searching, half, in_header, in_body, in_sum, in_clock, Said, quiet, acknowledged, status, initialized, added, ended, inquired, printed, refused, Reading, reading, on, acted, carried_out, asked, after_body, after_header, packet, after88, follow, read_on}
@@ -23,7 +24,7 @@ body_or_sum h n c = cond (ltb (length c) n) (in_body h c) (in_sum h c [])
 abbrev pub head_moved : Bands → List ℕ → Reading
 head_moved w h =
     cond (ltb (length h) 4) (reading w (in_header h) quiet)
-    (cond (fitting (get_or h 0 0) (get_or h 1 0) (size_in h)) (reading w (body_or_sum h (size_in h) []) quiet) (reading w searching (refused 33)))
+    (cond (fitting (get_or h 0 0) (get_or h 1 0) (size_in h)) (reading w (body_or_sum h (size_in h) []) quiet) (reading w searching (refused fault.PacketHeader)))
 
 abbrev pub decided : Bands → Action → Reading
 decided w initialize = reading [] (in_clock 0) initialized
@@ -31,7 +32,7 @@ decided w (add band) = reading (w ++ (band ∷ [])) (in_clock 0) (added (length 
 decided w end_page = reading w (in_clock 0) ended
 decided w (print p m d) = reading w (in_clock 0) (printed (length w) m d p)
 decided w inquire = reading w (in_clock 0) inquired
-decided w (refuse n) = reading w searching (refused n)
+decided w (refuse f) = reading w searching (refused f)
 
 abbrev pub moved : Place → Bands → ℕ → Reading
 moved searching w b = reading w (cond (eqb b 0x88) half searching) quiet
@@ -124,9 +125,9 @@ module _ (n : ℕ) (ih : (w : Bands) (s : Said) (bytes : List ℕ) → length by
   header_runs x (c ∷ i ∷ p ∷ []) w l = refl
   header_runs x (c ∷ i ∷ p ∷ h ∷ bytes) w l = go (fitting c i (number p h))
     where
-      go : (t : Bool) → runs bytes (cond t (reading w (body_or_sum (c ∷ i ∷ p ∷ h ∷ []) (number p h) []) quiet) (reading w searching (refused 33)))
-          ≡ follow (cond t (after_header w (c ∷ i ∷ p ∷ h ∷ []) (number p h) bytes) (on 5 w (refused 33))) (K (x ∷ c ∷ i ∷ p ∷ h ∷ bytes))
-      go false = ih w (refused 33) bytes (omega arith) ∙ sym (skips (x ∷ c ∷ i ∷ p ∷ h ∷ bytes) 5 w (refused 33))
+      go : (t : Bool) → runs bytes (cond t (reading w (body_or_sum (c ∷ i ∷ p ∷ h ∷ []) (number p h) []) quiet) (reading w searching (refused fault.PacketHeader)))
+          ≡ follow (cond t (after_header w (c ∷ i ∷ p ∷ h ∷ []) (number p h) bytes) (on 5 w (refused fault.PacketHeader))) (K (x ∷ c ∷ i ∷ p ∷ h ∷ bytes))
+      go false = ih w (refused fault.PacketHeader) bytes (omega arith) ∙ sym (skips (x ∷ c ∷ i ∷ p ∷ h ∷ bytes) 5 w (refused fault.PacketHeader))
       go true = after-runs (x ∷ c ∷ i ∷ p ∷ h ∷ bytes) bytes (c ∷ i ∷ p ∷ h ∷ []) (number p h) w (ltb (length bytes) (number p h)) refl refl refl (omega arith)
 
   half_runs : (bytes : List ℕ) (w : Bands) → length bytes ≤ n → runs bytes (reading w half quiet) ≡ follow (after88 w bytes) (K bytes)

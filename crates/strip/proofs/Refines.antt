@@ -9,15 +9,18 @@ use borrow.Author.Tests.{lt-ltb, le-ltb, ltb-true, leb-true, leb-false, eqb-true
 use lib.Dec.{eqb, ltb, leb}
 use lib.ListN.{length, get_or, take, drop, set, length-append, length-set}
 use lib.Seq.{length-take-le, take-suc-set, take_at, get_or-take}
+use Rattle.std.proofs.Common.{Ok}
+use Rattle.refusal.specs.declared.Fault.TheVariants as fault
+use Rattle.refusal.specs.Faults.{number_of}
 use Rattle.strip.specs.declared.Receiver.{Receiver}
 use Rattle.strip.specs.declared.Phase.{Phase}
 use Rattle.strip.specs.declared.Phase.TheVariants.{Hunt, Mark, Command, Indicator, Low, High, Body, SumLow, SumHigh, ClockFirst, ClockSecond}
-use Rattle.strip.specs.declared.Answer.TheVariants.{Reply, Added, Printed, Refused}
+use Rattle.strip.specs.declared.Answer.TheVariants.{Reply, Added, Printed}
 use Rattle.strip.specs.Packets.{fitting, number, add16, sum_from, checksum}
 use Rattle.strip.specs.Coding.{Expansion, whole, cut, expand}
 use Rattle.strip.specs.Actions.{Action, initialize, add, end_page, print, inquire, refuse, action, of_expansion, of_data, of_command}
 use Rattle.strip.specs.Reading.{Bands, searching, half, in_header, in_body, in_sum, in_clock, quiet, refused, Reading, reading, asked}
-use Rattle.strip.specs.Step.{After, receiver, leaves, noted, at, placed, carried, taken}
+use Rattle.strip.specs.Step.{After, receiver, leaves, refused_with, noted, at, placed, carried, taken}
 use Rattle.strip.specs.Streams.{head_of, body_of, place_at, SumIs, joined, answer_of, dots_of}
 use Rattle.strip.specs.Dots as rows
 use Rattle.strip.specs.Dots.{listed, four_dots, tile_byte, dot_of}
@@ -135,29 +138,29 @@ fitting_most c i n h =
     (of_cond (eqb c 2) (of_and (eqb i 0) (eqb n 4) (is 4 (omega arith)))
     (of_cond (eqb c 1 || eqb c 15) (of_and (eqb i 0) (eqb n 0) (is 0 (omega arith))) (leb-true n 648))) h
 
--- an added band is 640 bytes, and the tenth is not added; a packet's refusals are below 36
+-- an added band is 640 bytes, and the tenth is not added; a packet's refusals have numbers below 36
 abbrev pub Bounded : ℕ → Action → Type 0
 Bounded n initialize = Unit
 Bounded n (add band) = (length band ≡ 640) × (n < 9)
 Bounded n end_page = Unit
 Bounded n (print p m d) = Unit
 Bounded n inquire = Unit
-Bounded n (refuse m) = m < 36
+Bounded n (refuse f) = number_of f < 36
 
 pub bounded : (n c i : ℕ) (body : List ℕ) (s l h : ℕ) → Bounded n (action n c i body s l h)
 unfolding action
 bounded n c i body s l h =
-    pick (eqb (number l h) s) (of_command n c i body) (refuse 31)
+    pick (eqb (number l h) s) (of_command n c i body) (refuse fault.Checksum)
     (λ _. pick (eqb c 1) initialize (two c) (λ _. tt)
     (λ _. pick (eqb c 2) (print (get_or body 2 0) (get_or body 1 0) (get_or body 3 0)) (four c) (λ _. tt)
-    (λ _. pick (eqb c 4) (of_data n i body) (cond (eqb c 15) inquire (refuse 32))
+    (λ _. pick (eqb c 4) (of_data n i body) (cond (eqb c 15) inquire (refuse fault.UnknownCommand))
     (λ _. pick (eqb (length body) 0) end_page _ (λ _. tt)
-    (λ _. pick (leb 9 n) (refuse 34) _ (λ _. omega arith) (λ q. expanded (cond (eqb i 0) (whole body) (expand body)) (leb-false 9 n q))))
-    (λ _. pick (eqb c 15) inquire (refuse 32) (λ _. tt) (λ _. omega arith)))))
+    (λ _. pick (leb 9 n) (refuse fault.TooManyBands) _ (λ _. omega arith) (λ q. expanded (cond (eqb i 0) (whole body) (expand body)) (leb-false 9 n q))))
+    (λ _. pick (eqb c 15) inquire (refuse fault.UnknownCommand) (λ _. tt) (λ _. omega arith)))))
     (λ _. omega arith)
   where
     four : ℕ → Action
-    four c = cond (eqb c 4) (of_data n i body) (cond (eqb c 15) inquire (refuse 32))
+    four c = cond (eqb c 4) (of_data n i body) (cond (eqb c 15) inquire (refuse fault.UnknownCommand))
 
     two : ℕ → Action
     two c = cond (eqb c 2) (print (get_or body 2 0) (get_or body 1 0) (get_or body 3 0)) (four c)
@@ -167,7 +170,7 @@ bounded n c i body s l h =
     pick false x y f g = g refl
 
     expanded : (e : Expansion) → n < 9 → Bounded n (of_expansion e)
-    expanded (whole band) lt = pick (eqb (length band) 640) (add band) (refuse 35) (λ q. (eqb-true (length band) 640 q, lt)) (λ _. omega arith)
+    expanded (whole band) lt = pick (eqb (length band) 640) (add band) (refuse fault.BandBytes) (λ q. (eqb-true (length band) 640 q, lt)) (λ _. omega arith)
     expanded cut lt = omega arith
 
 -- ---- one byte
@@ -197,14 +200,14 @@ module _ (r : Receiver) (w : Bands) (b : ℕ) (bs ds : List ℕ) (byte : b < 256
   hunts : Fine Hunt r w bs → Follows ds (taken Hunt r b bs ds) (moved searching w b) r.status
   hunts f = go (eqb b 0x88)
     where
-      go : (t : Bool) → Follows ds (leaves (at r (cond t Mark Hunt)) (Reply 0) bs ds) (reading w (cond t half searching) quiet) r.status
+      go : (t : Bool) → Follows ds (leaves (at r (cond t Mark Hunt)) (Ok (Reply 0)) bs ds) (reading w (cond t half searching) quiet) r.status
       go true = record { place_is = refl; fine = noted-fine Hunt Mark r _ _ _ _ _ _ w bs f f.have_most tt tt; answer_is = refl; dots_is = refl }
       go false = record { place_is = refl; fine = noted-fine Hunt Hunt r _ _ _ _ _ _ w bs f f.have_most tt tt; answer_is = refl; dots_is = refl }
 
   marks : Fine Mark r w bs → Follows ds (taken Mark r b bs ds) (moved half w b) r.status
   marks f = go (eqb b 0x33) (eqb b 0x88)
     where
-      go : (t u : Bool) → Follows ds (leaves (at r (cond t Command (cond u Mark Hunt))) (Reply 0) bs ds) (reading w (cond t (in_header []) (cond u half searching)) quiet) r.status
+      go : (t u : Bool) → Follows ds (leaves (at r (cond t Command (cond u Mark Hunt))) (Ok (Reply 0)) bs ds) (reading w (cond t (in_header []) (cond u half searching)) quiet) r.status
       go true u = record { place_is = refl; fine = noted-fine Mark Command r _ _ _ _ _ _ w bs f f.have_most tt tt; answer_is = refl; dots_is = refl }
       go false true = record { place_is = refl; fine = noted-fine Mark Mark r _ _ _ _ _ _ w bs f f.have_most tt tt; answer_is = refl; dots_is = refl }
       go false false = record { place_is = refl; fine = noted-fine Mark Hunt r _ _ _ _ _ _ w bs f f.have_most tt tt; answer_is = refl; dots_is = refl }
@@ -245,7 +248,7 @@ module _ (r : Receiver) (w : Bands) (b : ℕ) (bs ds : List ℕ) (byte : b < 256
       sums = ap (λ (s : ℕ). add16 s b) f.sum_is ∙ ap (λ (l : List ℕ). checksum (l ++ [])) (sym same)
 
       begun : (t : Bool) → eqb n 0 ≡ t → n ≤ 648
-          → Follows ds (leaves (noted r (cond t SumLow Body) c i n 0 (add16 r.sum b) r.low) (Reply 0) bs ds) (reading w (body_or_sum h n []) quiet) r.status
+          → Follows ds (leaves (noted r (cond t SumLow Body) c i n 0 (add16 r.sum b) r.low) (Ok (Reply 0)) bs ds) (reading w (body_or_sum h n []) quiet) r.status
       begun true q l =
           let z : ltb 0 n ≡ false = le-ltb 0 n (omega (arith, eqb-true n 0 q)) in
           record { place_is = rw z (ap (λ (x : List ℕ). in_sum x [] []) same); fine = noted-fine High SumLow r _ _ _ _ _ _ w bs f (omega arith) tt sums; answer_is = refl; dots_is = refl }
@@ -255,8 +258,8 @@ module _ (r : Receiver) (w : Bands) (b : ℕ) (bs ds : List ℕ) (byte : b < 256
           record { place_is = rw z (ap (λ (x : List ℕ). in_body x []) same); fine = noted-fine High Body r _ _ _ _ _ _ w bs f (omega arith) (p, l) sums; answer_is = refl; dots_is = refl }
 
       go : (t : Bool) → fitting c i n ≡ t → Follows ds
-          (cond t (leaves (noted r (cond (eqb n 0) SumLow Body) c i n 0 (add16 r.sum b) r.low) (Reply 0) bs ds) (leaves (at r Hunt) (Refused 33 0) bs ds))
-          (cond t (reading w (body_or_sum h n []) quiet) (reading w searching (refused 33))) r.status
+          (cond t (leaves (noted r (cond (eqb n 0) SumLow Body) c i n 0 (add16 r.sum b) r.low) (Ok (Reply 0)) bs ds) (leaves (at r Hunt) (refused_with fault.PacketHeader) bs ds))
+          (cond t (reading w (body_or_sum h n []) quiet) (reading w searching (refused fault.PacketHeader))) r.status
       go true q = begun (eqb n 0) refl (fitting_most c i n q)
       go false q = record { place_is = refl; fine = noted-fine High Hunt r _ _ _ _ _ _ w bs f f.have_most tt tt; answer_is = refl; dots_is = refl }
 
@@ -290,7 +293,7 @@ module _ (r : Receiver) (w : Bands) (b : ℕ) (bs ds : List ℕ) (byte : b < 256
         bands_are = f.bands_are;
       }
 
-      go : (t : Bool) → ltb (r.have + 1) r.size ≡ t → Follows ds (leaves (now (cond t Body SumLow)) (Reply 0) bs ds)
+      go : (t : Bool) → ltb (r.have + 1) r.size ≡ t → Follows ds (leaves (now (cond t Body SumLow)) (Ok (Reply 0)) bs ds)
           (reading w (cond t (in_body (head_of r) (body_of r ++ (b ∷ []))) (in_sum (head_of r) (body_of r ++ (b ∷ [])) [])) quiet) r.status
       go true q = record { place_is = ap (λ (l : List ℕ). in_body (head_of r) l) more; fine = fine' Body (ltb-true (r.have + 1) r.size q, f.extra.1) sums; answer_is = refl; dots_is = refl }
       go false q = record { place_is = ap (λ (l : List ℕ). in_sum (head_of r) l []) more; fine = fine' SumLow tt sums; answer_is = refl; dots_is = refl }
@@ -317,10 +320,10 @@ module _ (r : Receiver) (w : Bands) (b : ℕ) (bs ds : List ℕ) (byte : b < 256
       count_is = ap (λ (x : ℕ). x + 1) f.count_is ∙ sym (length-append w (band ∷ []));
       bands_are = placed_is r.bands band a.0 a.1 ∙ ap (λ (l : List ℕ). l ++ band) f.bands_are ∙ sym (joined_snoc w band);
     };
-    answer_is = ap (λ (x : ℕ). Added (x + 1)) f.count_is;
+    answer_is = ap (λ (x : ℕ). Ok (Added (x + 1))) f.count_is;
     dots_is = refl;
   }
-  carries f (print p m d) a = record { place_is = refl; fine = noted-fine SumHigh ClockFirst r _ _ _ _ _ _ w bs f f.have_most tt tt; answer_is = ap (λ (x : ℕ). Printed x m d) f.count_is; dots_is = rows_same r.bands p ds ∙ (λ i. rows.printed (f.bands_are i) (f.count_is i) p ds) }
+  carries f (print p m d) a = record { place_is = refl; fine = noted-fine SumHigh ClockFirst r _ _ _ _ _ _ w bs f f.have_most tt tt; answer_is = ap (λ (x : ℕ). Ok (Printed x m d)) f.count_is; dots_is = rows_same r.bands p ds ∙ (λ i. rows.printed (f.bands_are i) (f.count_is i) p ds) }
   carries f end_page a = record { place_is = refl; fine = noted-fine SumHigh ClockFirst r _ _ _ _ _ _ w bs f f.have_most tt tt; answer_is = refl; dots_is = refl }
   carries f inquire a = record { place_is = refl; fine = noted-fine SumHigh ClockFirst r _ _ _ _ _ _ w bs f f.have_most tt tt; answer_is = refl; dots_is = refl }
   carries f (refuse n) a = record { place_is = refl; fine = noted-fine SumHigh Hunt r _ _ _ _ _ _ w bs f f.have_most tt tt; answer_is = refl; dots_is = refl }

@@ -7,14 +7,16 @@ use native.Mathlib.Omega.{arith}
 use lib.Dec.{eqb}
 use lib.ListN.{length, take, drop, length-append, length-drop}
 use lib.Seq.{length-take-le}
+use Rattle.std.proofs.Common.{Ok}
+use Rattle.refusal.specs.declared.Fault.TheVariants as fault
 use Rattle.strip.specs.declared.Receiver.{Receiver}
 use Rattle.strip.specs.declared.Phase.{Phase}
 use Rattle.strip.specs.declared.Phase.TheVariants.{Hunt, Mark, Command, Indicator, Low, High, Body, SumLow, SumHigh, ClockFirst, ClockSecond}
-use Rattle.strip.specs.declared.Answer.TheVariants.{Reply, Refused}
+use Rattle.strip.specs.declared.Answer.TheVariants.{Reply}
 use Rattle.strip.specs.Packets.{fitting, number, add16}
 use Rattle.strip.specs.Dots.{listed, four_dots, printed}
 use Rattle.strip.specs.Actions.{Action, initialize, add, end_page, print, inquire, refuse, action}
-use Rattle.strip.specs.Step.{After, leaves, noted, at, placed, carried, taken, step_of, with_status, new_record}
+use Rattle.strip.specs.Step.{After, leaves, refused_with, noted, at, placed, carried, taken, step_of, with_status, new_record}
 use Rattle.strip.specs.Streams.{Stream, new, took, host, body_of}
 use Rattle.strip.specs.Witness.{Happening, comes, sets, bytes_of, outcome_of, Bytes, EveryStream}
 use Rattle.strip.proofs.Refines.{Bounded, bounded}
@@ -59,7 +61,7 @@ module _ (r : Receiver) (bs ds : List ℕ) (p : 5760 ≤ length bs) (q : 5760 �
       rec' : Receiver
       rec' = noted r (cond (eqb (number r.low b) 0) SumLow Body) r.command r.indicator (number r.low b) 0 (add16 r.sum b) r.low
 
-      go : (t : Bool) → Room (cond t (leaves rec' (Reply 0) bs ds) (leaves (at r Hunt) (Refused 33 0) bs ds))
+      go : (t : Bool) → Room (cond t (leaves rec' (Ok (Reply 0)) bs ds) (leaves (at r Hunt) (refused_with fault.PacketHeader) bs ds))
       go true = record { in_bands = p; in_dots = q }
       go false = record { in_bands = p; in_dots = q }
   taken-room Body b m = record { in_bands = p; in_dots = q }
@@ -79,7 +81,7 @@ goes_on (comes b ∷ hs) bytes o t m s =
     let k : o' ≡ taken o.rec.phase o.rec b o.bands o.dots
     = roomy bytes o.rec o'.rec o.bands o'.bands o.dots o'.dots o'.answer b s refl m.in_bands m.in_dots in
     let m' : Room o' = subst Room (sym k) (taken-room o.rec o.bands o.dots m.in_bands m.in_dots o.rec.phase b (kept s).fine.most) in
-    let no36 : o'.answer ≡ Refused 36 0 → ⊥
+    let no36 : o'.answer ≡ refused_with fault.Unusable → ⊥
     = always_taken bytes o.rec o'.rec o.bands o'.bands o.dots o'.dots o'.answer b s refl m.in_bands m.in_dots in
     subst (λ (l : List ℕ). Stream l (outcome_of hs o').rec (outcome_of hs o').bands) (append_assoc bytes (b ∷ []) (bytes_of hs))
     (goes_on hs (bytes ++ (b ∷ [])) o' t.1 m' (took b t.0 o.dots o'.dots o'.answer refl no36 s))

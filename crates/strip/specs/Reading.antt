@@ -1,5 +1,7 @@
 -- The plain reading of a stream: find the mark, take the packet after it, act or refuse, pass the two clock bytes, go on.
 use Rattle.std.specs.Prelude.{◌≡◌, refl, cond, List, [], ◌∷◌, ◌++◌, ℕ, zero, suc, ◌+◌, eqb, ltb, length, get_or, take, drop, replicate}
+use Rattle.refusal.specs.declared.Fault.{Fault}
+use Rattle.refusal.specs.declared.Fault.TheVariants as fault
 use Rattle.strip.specs.Packets.{first_mark, second_mark, fitting, number, checksum, sum_from}
 use Rattle.strip.specs.Coding.{expand_from}
 use Rattle.strip.specs.Actions.{Action, initialize, add, end_page, print, inquire, refuse, action}
@@ -36,7 +38,7 @@ pub data Said : Type 0 where
   inquired : Said
   -- with the palette that the rows were written through
   printed : (count margins density palette : ℕ) → Said
-  refused : (number : ℕ) → Said
+  refused : Fault → Said
 
 pub record Reading : Type 0 where
   pub waiting : Bands
@@ -63,7 +65,7 @@ carried_out skip w (add band) tail = acted skip (w ++ (band ∷ [])) (added (len
 carried_out skip w end_page tail = acted skip w ended tail
 carried_out skip w (print palette margins density) tail = acted skip w (printed (length w) margins density palette) tail
 carried_out skip w inquire tail = acted skip w inquired tail
-carried_out skip w (refuse m) tail = on skip w (refused m)
+carried_out skip w (refuse f) tail = on skip w (refused f)
 
 -- what a packet asks for: its four header bytes, its body, its two checksum bytes
 abbrev pub asked : Bands → (head came : List ℕ) → (low high : ℕ) → Action
@@ -80,14 +82,14 @@ abbrev pub after_header : Bands → (head : List ℕ) → (n : ℕ) → (bytes :
 after_header w head n bytes =
     cond (ltb (length bytes) n) (ends (reading w (in_body head bytes) quiet)) (after_body (5 + (n + 2)) w head (take n bytes) (drop n bytes))
 
--- after the mark; 33 is told at the header's last byte
+-- after the mark; PacketHeader, 33, is told at the header's last byte
 unfoldable pub packet : Bands → (bytes : List ℕ) → Next
 packet w [] = ends (reading w (in_header []) quiet)
 packet w (c ∷ []) = ends (reading w (in_header (c ∷ [])) quiet)
 packet w (c ∷ i ∷ []) = ends (reading w (in_header (c ∷ i ∷ [])) quiet)
 packet w (c ∷ i ∷ l ∷ []) = ends (reading w (in_header (c ∷ i ∷ l ∷ [])) quiet)
 packet w (c ∷ i ∷ l ∷ h ∷ bytes) =
-    cond (fitting c i (number l h)) (after_header w (c ∷ i ∷ l ∷ h ∷ []) (number l h) bytes) (on 5 w (refused 33))
+    cond (fitting c i (number l h)) (after_header w (c ∷ i ∷ l ∷ h ∷ []) (number l h) bytes) (on 5 w (refused fault.PacketHeader))
 
 -- an 88 before `bytes`
 abbrev pub after88 : Bands → (bytes : List ℕ) → Next
@@ -136,11 +138,11 @@ pub record ReadingCases : Type 0 where
   -- a clock byte opens no mark
   pub no_mark_there : plainly (inquiry ++ (0x00 ∷ 0x88 ∷ 0x33 ∷ [])) ≡ reading [] searching quiet
   -- a wrong sum, and the next packet right after it
-  pub wrong_sum : plainly (0x88 ∷ 0x33 ∷ 0x0F ∷ 0x00 ∷ 0x00 ∷ 0x00 ∷ 0x0E ∷ 0x00 ∷ []) ≡ reading [] searching (refused 31)
+  pub wrong_sum : plainly (0x88 ∷ 0x33 ∷ 0x0F ∷ 0x00 ∷ 0x00 ∷ 0x00 ∷ 0x0E ∷ 0x00 ∷ []) ≡ reading [] searching (refused fault.Checksum)
   pub then_next : plainly (0x88 ∷ 0x33 ∷ 0x0F ∷ 0x00 ∷ 0x00 ∷ 0x00 ∷ 0x0E ∷ 0x00 ∷ inquiry) ≡ reading [] (in_clock 0) inquired
   -- the byte that tells of a refusal opens no mark: a length's 88, then 33
   pub no_mark_of_length : plainly (0x88 ∷ 0x33 ∷ 0x01 ∷ 0x00 ∷ 0x00 ∷ 0x88 ∷ 0x33 ∷ 0x0F ∷ []) ≡ reading [] searching quiet
-  pub unfit : plainly (0x88 ∷ 0x33 ∷ 0x02 ∷ 0x00 ∷ 0x05 ∷ 0x00 ∷ []) ≡ reading [] searching (refused 33)
+  pub unfit : plainly (0x88 ∷ 0x33 ∷ 0x02 ∷ 0x00 ∷ 0x05 ∷ 0x00 ∷ []) ≡ reading [] searching (refused fault.PacketHeader)
   pub body_is_searched : plainly (0x88 ∷ 0x33 ∷ 0x02 ∷ 0x00 ∷ 0x05 ∷ 0x00 ∷ inquiry) ≡ reading [] (in_clock 0) inquired
   pub one_band_case : plainly band7 ≡ reading (replicate 640 7 ∷ []) searching status
   pub prints : plainly (band7 ++ band7 ++ printing) ≡ reading (replicate 640 7 ∷ replicate 640 7 ∷ []) (in_clock 0) (printed 2 0x13 0x40 0xE4)

@@ -1,17 +1,24 @@
 -- One byte comes: what a record, its answer and the two lent buffers are then. It says so of every record.
-use Rattle.std.specs.Prelude.{◌≡◌, refl, Bool, cond, ◌&&◌, ◌||◌, List, [], ◌++◌, ℕ, ◌+◌, ◌*◌, eqb, ltb, length, take, drop, set, replicate}
+use Rattle.std.specs.Prelude.{◌≡◌, refl, Result, Ok, Err, Bool, cond, ◌&&◌, ◌||◌, List, [], ◌++◌, ℕ, ◌+◌, ◌*◌, eqb, ltb, length, take, drop, set, replicate}
+use Rattle.refusal.specs.declared.Fault.{Fault}
+use Rattle.refusal.specs.declared.Fault.TheVariants as fault
+use Rattle.refusal.specs.declared.Refusal.{Refusal}
 use Rattle.strip.specs.declared.Receiver.{Receiver}
 use Rattle.strip.specs.declared.Phase.{Phase}
 use Rattle.strip.specs.declared.Phase.TheVariants.{Hunt, Mark, Command, Indicator, Low, High, Body, SumLow, SumHigh, ClockFirst, ClockSecond}
 use Rattle.strip.specs.declared.Answer.{Answer}
-use Rattle.strip.specs.declared.Answer.TheVariants.{Reply, Initialized, Added, Ended, Inquired, Printed, Refused}
+use Rattle.strip.specs.declared.Answer.TheVariants.{Reply, Initialized, Added, Ended, Inquired, Printed}
 use Rattle.strip.specs.Packets.{first_mark, second_mark, fitting, number, add16, most_body}
 use Rattle.strip.specs.Dots.{printed}
 use Rattle.strip.specs.Actions.{Action, initialize, add, end_page, print, inquire, refuse, action, most_bands}
 
+-- what a byte is answered: an answer, or a refusal
+abbrev pub Answered : Type 0
+Answered = Result Answer Refusal
+
 pub record After : Type 0 where
   pub rec : Receiver
-  pub answer : Answer
+  pub answer : Answered
   pub bands : List ℕ
   pub dots : List ℕ
 
@@ -60,52 +67,56 @@ bodied r b = cond (ltb r.have most_body) (with_byte r b (r.have + 1) (set r.body
 abbrev pub placed : (bands : List ℕ) (n : ℕ) (band : List ℕ) → List ℕ
 placed bands n band = take (640 * n) bands ++ (band ++ drop (640 * n + 640) bands)
 
-abbrev pub leaves : Receiver → Answer → (bands dots : List ℕ) → After
+-- every refusal is at place 0
+abbrev pub refused_with : Fault → Answered
+refused_with f = Err (record { fault = f; place = 0 })
+
+abbrev pub leaves : Receiver → Answered → (bands dots : List ℕ) → After
 leaves r a bs ds = record { rec = r; answer = a; bands = bs; dots = ds }
 
 -- the second checksum byte came, and the packet asks for this
 abbrev pub carried : Receiver → Action → (bands dots : List ℕ) → After
-carried r initialize bs ds = leaves (at (holding r 0) ClockFirst) Initialized bs ds
-carried r (add band) bs ds = leaves (at (holding r (r.bands + 1)) ClockFirst) (Added (r.bands + 1)) (placed bs r.bands band) ds
-carried r end_page bs ds = leaves (at r ClockFirst) Ended bs ds
-carried r (print palette margins density) bs ds = leaves (at r ClockFirst) (Printed r.bands margins density) bs (printed bs r.bands palette ds)
-carried r inquire bs ds = leaves (at r ClockFirst) Inquired bs ds
-carried r (refuse n) bs ds = leaves (at r Hunt) (Refused n 0) bs ds
+carried r initialize bs ds = leaves (at (holding r 0) ClockFirst) (Ok Initialized) bs ds
+carried r (add band) bs ds = leaves (at (holding r (r.bands + 1)) ClockFirst) (Ok (Added (r.bands + 1))) (placed bs r.bands band) ds
+carried r end_page bs ds = leaves (at r ClockFirst) (Ok Ended) bs ds
+carried r (print palette margins density) bs ds = leaves (at r ClockFirst) (Ok (Printed r.bands margins density)) bs (printed bs r.bands palette ds)
+carried r inquire bs ds = leaves (at r ClockFirst) (Ok Inquired) bs ds
+carried r (refuse f) bs ds = leaves (at r Hunt) (refused_with f) bs ds
 
 -- the header's last byte came, and the length is n
 abbrev pub headed : Receiver → (n sum : ℕ) → (bands dots : List ℕ) → After
 headed r n s bs ds =
     cond (fitting r.command r.indicator n)
-    (leaves (noted r (cond (eqb n 0) SumLow Body) r.command r.indicator n 0 s r.low) (Reply 0) bs ds)
-    (leaves (at r Hunt) (Refused 33 0) bs ds)
+    (leaves (noted r (cond (eqb n 0) SumLow Body) r.command r.indicator n 0 s r.low) (Ok (Reply 0)) bs ds)
+    (leaves (at r Hunt) (refused_with fault.PacketHeader) bs ds)
 
 -- the byte is taken
 abbrev pub taken : Phase → Receiver → ℕ → (bands dots : List ℕ) → After
-taken Hunt r b bs ds = leaves (at r (cond (eqb b first_mark) Mark Hunt)) (Reply 0) bs ds
-taken Mark r b bs ds = leaves (at r (cond (eqb b second_mark) Command (cond (eqb b first_mark) Mark Hunt))) (Reply 0) bs ds
-taken Command r b bs ds = leaves (noted r Indicator b r.indicator r.size r.have b r.low) (Reply 0) bs ds
-taken Indicator r b bs ds = leaves (noted r Low r.command b r.size r.have (add16 r.sum b) r.low) (Reply 0) bs ds
-taken Low r b bs ds = leaves (noted r High r.command r.indicator r.size r.have (add16 r.sum b) b) (Reply 0) bs ds
+taken Hunt r b bs ds = leaves (at r (cond (eqb b first_mark) Mark Hunt)) (Ok (Reply 0)) bs ds
+taken Mark r b bs ds = leaves (at r (cond (eqb b second_mark) Command (cond (eqb b first_mark) Mark Hunt))) (Ok (Reply 0)) bs ds
+taken Command r b bs ds = leaves (noted r Indicator b r.indicator r.size r.have b r.low) (Ok (Reply 0)) bs ds
+taken Indicator r b bs ds = leaves (noted r Low r.command b r.size r.have (add16 r.sum b) r.low) (Ok (Reply 0)) bs ds
+taken Low r b bs ds = leaves (noted r High r.command r.indicator r.size r.have (add16 r.sum b) b) (Ok (Reply 0)) bs ds
 taken High r b bs ds = headed r (number r.low b) (add16 r.sum b) bs ds
-taken Body r b bs ds = leaves (bodied r b) (Reply 0) bs ds
-taken SumLow r b bs ds = leaves (noted r SumHigh r.command r.indicator r.size r.have r.sum b) (Reply 0) bs ds
+taken Body r b bs ds = leaves (bodied r b) (Ok (Reply 0)) bs ds
+taken SumLow r b bs ds = leaves (noted r SumHigh r.command r.indicator r.size r.have r.sum b) (Ok (Reply 0)) bs ds
 taken SumHigh r b bs ds = carried r (action r.bands r.command r.indicator (take r.have r.body) r.sum r.low b) bs ds
-taken ClockFirst r b bs ds = leaves (at r ClockSecond) (Reply 0x81) bs ds
-taken ClockSecond r b bs ds = leaves (at r Hunt) (Reply r.status) bs ds
+taken ClockFirst r b bs ds = leaves (at r ClockSecond) (Ok (Reply 0x81)) bs ds
+taken ClockSecond r b bs ds = leaves (at r Hunt) (Ok (Reply r.status)) bs ds
 
--- 36: a lent buffer under 5,760 bytes, or a record of over nine bands or 648 body bytes
+-- Unusable, 36: a lent buffer under 5,760 bytes, or a record of over nine bands or 648 body bytes
 unfoldable pub unusable : (band_bytes dot_bytes waiting have : ℕ) → Bool
 unusable band_bytes dot_bytes waiting have = ltb band_bytes room || (ltb dot_bytes room || (ltb most_bands waiting || ltb most_body have))
 
 -- one byte, to a record that stands in this phase: 36 comes first, and the byte is then not taken
 unfoldable pub step_in : Phase → Receiver → ℕ → (bands dots : List ℕ) → After
-step_in phase r b bs ds = cond (unusable (length bs) (length ds) r.bands r.have) (leaves r (Refused 36 0) bs ds) (taken phase r b bs ds)
+step_in phase r b bs ds = cond (unusable (length bs) (length ds) r.bands r.have) (leaves r (refused_with fault.Unusable) bs ds) (taken phase r b bs ds)
 
 abbrev pub step_of : Receiver → ℕ → (bands dots : List ℕ) → After
 step_of r b bs ds = step_in r.phase r b bs ds
 
 -- what the contracts of `step` and `receive` say
-abbrev pub Steps : Receiver → ℕ → (bands dots : List ℕ) → Receiver → Answer → (bands dots : List ℕ) → Type 0
+abbrev pub Steps : Receiver → ℕ → (bands dots : List ℕ) → Receiver → Answered → (bands dots : List ℕ) → Type 0
 Steps r b bs ds r' a bs' ds' = leaves r' a bs' ds' ≡ step_of r b bs ds
 
 -- the record with the status that the host sets
@@ -141,12 +152,12 @@ pub record StepCases : Type 0 where
   pub no_room : (taken Body (odd Body 700 648 1 0 0) 9 [] []).rec ≡ odd SumLow 700 648 10 0 0
   pub last_room : (taken Body (odd Body 700 647 1 0 0) 9 [] []).rec ≡ receiver SumLow 0x02 0 700 648 10 0 0 0 (set (replicate 648 7) 647 9)
   -- Print with two body bytes: palette and density are 0
-  pub short_print : (taken SumHigh (odd SumHigh 4 2 1 1 0) 0 [] []).answer ≡ Printed 0 7 0
-  pub ten_bands : (step_in Hunt (odd Hunt 0 0 0 0 10) 0x88 (replicate 5760 0) (replicate 5760 0)).answer ≡ Refused 36 0
-  pub body_649 : (step_in Hunt (odd Hunt 0 649 0 0 9) 0x88 (replicate 5760 0) (replicate 5760 0)).answer ≡ Refused 36 0
-  pub just_usable : (step_in Hunt (odd Hunt 0 648 0 0 9) 0x88 (replicate 5760 0) (replicate 5760 0)).answer ≡ Reply 0
-  pub bands_5759 : (step_in Hunt (odd Hunt 0 0 0 0 0) 0x88 (replicate 5759 0) (replicate 5760 0)).answer ≡ Refused 36 0
-  pub dots_5759 : (step_in Hunt (odd Hunt 0 0 0 0 0) 0x88 (replicate 5760 0) (replicate 5759 0)).answer ≡ Refused 36 0
+  pub short_print : (taken SumHigh (odd SumHigh 4 2 1 1 0) 0 [] []).answer ≡ Ok (Printed 0 7 0)
+  pub ten_bands : (step_in Hunt (odd Hunt 0 0 0 0 10) 0x88 (replicate 5760 0) (replicate 5760 0)).answer ≡ refused_with fault.Unusable
+  pub body_649 : (step_in Hunt (odd Hunt 0 649 0 0 9) 0x88 (replicate 5760 0) (replicate 5760 0)).answer ≡ refused_with fault.Unusable
+  pub just_usable : (step_in Hunt (odd Hunt 0 648 0 0 9) 0x88 (replicate 5760 0) (replicate 5760 0)).answer ≡ Ok (Reply 0)
+  pub bands_5759 : (step_in Hunt (odd Hunt 0 0 0 0 0) 0x88 (replicate 5759 0) (replicate 5760 0)).answer ≡ refused_with fault.Unusable
+  pub dots_5759 : (step_in Hunt (odd Hunt 0 0 0 0 0) 0x88 (replicate 5760 0) (replicate 5759 0)).answer ≡ refused_with fault.Unusable
 
 pub step_cases : StepCases
 unfolding fitting action step_in unusable

@@ -1,14 +1,15 @@
 -- The statement about streams.
-use Rattle.std.specs.Prelude.{◌≡◌, List, [], ◌∷◌, ◌++◌, ℕ, ◌*◌, ◌/◌, ◌%◌, ◌≤◌, ◌<◌, length, take}
+use Rattle.std.specs.Prelude.{◌≡◌, Ok, List, [], ◌∷◌, ◌++◌, ℕ, ◌*◌, ◌/◌, ◌%◌, ◌≤◌, ◌<◌, length, take}
+use Rattle.refusal.specs.declared.Fault.{Fault}
+use Rattle.refusal.specs.declared.Fault.TheVariants.{Unusable}
 use Rattle.strip.specs.declared.Receiver.{Receiver}
 use Rattle.strip.specs.declared.Phase.{Phase}
 use Rattle.strip.specs.declared.Phase.TheVariants.{Hunt, Mark, Command, Indicator, Low, High, Body, SumLow, SumHigh, ClockFirst, ClockSecond}
-use Rattle.strip.specs.declared.Answer.{Answer}
-use Rattle.strip.specs.declared.Answer.TheVariants.{Reply, Initialized, Added, Ended, Inquired, Printed, Refused}
+use Rattle.strip.specs.declared.Answer.TheVariants.{Reply, Initialized, Added, Ended, Inquired, Printed}
 use Rattle.strip.specs.Packets.{checksum}
 use Rattle.strip.specs.Dots as rows
 use Rattle.strip.specs.Reading.{Place, searching, half, in_header, in_body, in_sum, in_clock, Said, quiet, acknowledged, status, initialized, added, ended, inquired, printed, refused, Reading, plainly, Bands}
-use Rattle.strip.specs.Step.{Steps, with_status, new_record}
+use Rattle.strip.specs.Step.{Answered, Steps, refused_with, with_status, new_record}
 
 -- ---- what happens to a receiver
 
@@ -20,11 +21,11 @@ waiting_in r bs = take (640 * r.bands) bs
 -- but that it meets receive's promise; each call has whatever dots, and any bytes past the waiting bands.
 pub data Stream : (bytes : List ℕ) (r : Receiver) (bs : List ℕ) → Type 0 where
   new : (bs : List ℕ) → Stream [] new_record bs
-  took : {bytes : List ℕ} {r r' : Receiver} {bs bs' : List ℕ} (b : ℕ) → b < 256 → (ds ds' : List ℕ) (a : Answer)
-      → Steps r b bs ds r' a bs' ds' → (a ≡ Refused 36 0 → ⊥) → Stream bytes r bs → Stream (bytes ++ (b ∷ [])) r' bs'
+  took : {bytes : List ℕ} {r r' : Receiver} {bs bs' : List ℕ} (b : ℕ) → b < 256 → (ds ds' : List ℕ) (a : Answered)
+      → Steps r b bs ds r' a bs' ds' → (a ≡ refused_with Unusable → ⊥) → Stream bytes r bs → Stream (bytes ++ (b ∷ [])) r' bs'
   -- a call refused with 36 takes no byte, whatever was lent to it
-  not_taken : {bytes : List ℕ} {r r' : Receiver} {bs : List ℕ} (b : ℕ) (cs cs' ds ds' : List ℕ) (a : Answer)
-      → Steps r b cs ds r' a cs' ds' → a ≡ Refused 36 0 → Stream bytes r bs → Stream bytes r' bs
+  not_taken : {bytes : List ℕ} {r r' : Receiver} {bs : List ℕ} (b : ℕ) (cs cs' ds ds' : List ℕ) (a : Answered)
+      → Steps r b cs ds r' a cs' ds' → a ≡ refused_with Unusable → Stream bytes r bs → Stream bytes r' bs
   host : {bytes : List ℕ} {r : Receiver} {bs : List ℕ} (v : ℕ) → Stream bytes r bs → Stream bytes (with_status v r) bs
   -- nobody else writes the waiting bands; what lies past them may change
   others : {bytes : List ℕ} {r : Receiver} {bs bs' : List ℕ} → waiting_in r bs' ≡ waiting_in r bs → Stream bytes r bs → Stream bytes r bs'
@@ -76,16 +77,16 @@ pub record Shows (r : Receiver) (bs : List ℕ) (x : Reading) : Type 0 where
   pub bands_are : waiting_in r bs ≡ joined x.waiting
 
 -- the answer to what was said, where the host last set this status
-abbrev pub answer_of : (status : ℕ) → Said → Answer
-answer_of v quiet = Reply 0
-answer_of v acknowledged = Reply 0x81
-answer_of v status = Reply v
-answer_of v initialized = Initialized
-answer_of v (added count) = Added count
-answer_of v ended = Ended
-answer_of v inquired = Inquired
-answer_of v (printed count margins density palette) = Printed count margins density
-answer_of v (refused n) = Refused n 0
+abbrev pub answer_of : (status : ℕ) → Said → Answered
+answer_of v quiet = Ok (Reply 0)
+answer_of v acknowledged = Ok (Reply 0x81)
+answer_of v status = Ok (Reply v)
+answer_of v initialized = Ok Initialized
+answer_of v (added count) = Ok (Added count)
+answer_of v ended = Ok Ended
+answer_of v inquired = Ok Inquired
+answer_of v (printed count margins density palette) = Ok (Printed count margins density)
+answer_of v (refused f) = refused_with f
 
 -- the dots after a byte, where ds were there: Print writes the rows of the waiting bands, else they stay
 abbrev pub dots_of : Bands → Said → List ℕ → List ℕ
@@ -97,27 +98,27 @@ dots_of w (added count) ds = ds
 dots_of w ended ds = ds
 dots_of w inquired ds = ds
 dots_of w (printed count margins density palette) ds = rows.printed (joined w) count palette ds
-dots_of w (refused n) ds = ds
+dots_of w (refused f) ds = ds
 
 -- a call that was refused: neither buffer changes, nor the count; with 36 nothing does, else the search begins at the next byte
-pub record Unchanged (r r' : Receiver) (no : ℕ) (bs bs' ds ds' : List ℕ) : Type 0 where
+pub record Unchanged (r r' : Receiver) (fault : Fault) (bs bs' ds ds' : List ℕ) : Type 0 where
   pub same_bands : bs' ≡ bs
   pub same_dots : ds' ≡ ds
   pub same_count : r'.bands ≡ r.bands
-  pub not_taken : no ≡ 36 → r' ≡ r
-  pub searches : (no ≡ 36 → ⊥) → r'.phase ≡ Hunt
+  pub not_taken : fault ≡ Unusable → r' ≡ r
+  pub searches : (fault ≡ Unusable → ⊥) → r'.phase ≡ Hunt
 
 pub record ReceivedPlainly : Type 0 where
   -- receiver and waiting bands are those of the plain reading of the packets
   pub reads : (bytes : List ℕ) (r : Receiver) (bs : List ℕ) → Stream bytes r bs → Shows r bs (plainly bytes)
   -- each taken byte is answered what the plain reading says
-  pub answers : (bytes : List ℕ) (r r' : Receiver) (bs bs' ds ds' : List ℕ) (a : Answer) (b : ℕ) → b < 256 → Stream bytes r bs
-      → Steps r b bs ds r' a bs' ds' → (a ≡ Refused 36 0 → ⊥) → a ≡ answer_of r.status (plainly (bytes ++ (b ∷ []))).said
+  pub answers : (bytes : List ℕ) (r r' : Receiver) (bs bs' ds ds' : List ℕ) (a : Answered) (b : ℕ) → b < 256 → Stream bytes r bs
+      → Steps r b bs ds r' a bs' ds' → (a ≡ refused_with Unusable → ⊥) → a ≡ answer_of r.status (plainly (bytes ++ (b ∷ []))).said
   -- and writes the dots that it says
-  pub prints : (bytes : List ℕ) (r r' : Receiver) (bs bs' ds ds' : List ℕ) (a : Answer) (b : ℕ) → b < 256 → Stream bytes r bs
-      → Steps r b bs ds r' a bs' ds' → (a ≡ Refused 36 0 → ⊥) → ds' ≡ dots_of (plainly (bytes ++ (b ∷ []))).waiting (plainly (bytes ++ (b ∷ []))).said ds
+  pub prints : (bytes : List ℕ) (r r' : Receiver) (bs bs' ds ds' : List ℕ) (a : Answered) (b : ℕ) → b < 256 → Stream bytes r bs
+      → Steps r b bs ds r' a bs' ds' → (a ≡ refused_with Unusable → ⊥) → ds' ≡ dots_of (plainly (bytes ++ (b ∷ []))).waiting (plainly (bytes ++ (b ∷ []))).said ds
   -- with room for nine bands in both buffers a byte is taken
-  pub takes : (bytes : List ℕ) (r r' : Receiver) (bs bs' ds ds' : List ℕ) (a : Answer) (b : ℕ) → Stream bytes r bs
-      → Steps r b bs ds r' a bs' ds' → 5760 ≤ length bs → 5760 ≤ length ds → a ≡ Refused 36 0 → ⊥
+  pub takes : (bytes : List ℕ) (r r' : Receiver) (bs bs' ds ds' : List ℕ) (a : Answered) (b : ℕ) → Stream bytes r bs
+      → Steps r b bs ds r' a bs' ds' → 5760 ≤ length bs → 5760 ≤ length ds → a ≡ refused_with Unusable → ⊥
   -- whatever the record: a refused packet changes no band, and the search for a mark goes on at the next byte; 36 takes nothing and changes nothing
-  pub refuses : (r r' : Receiver) (bs bs' ds ds' : List ℕ) (b no : ℕ) → Steps r b bs ds r' (Refused no 0) bs' ds' → Unchanged r r' no bs bs' ds ds'
+  pub refuses : (r r' : Receiver) (bs bs' ds ds' : List ℕ) (b : ℕ) (fault : Fault) → Steps r b bs ds r' (refused_with fault) bs' ds' → Unchanged r r' fault bs bs' ds ds'

@@ -1,14 +1,14 @@
 -- That the statement about streams speaks of something: whatever comes makes a stream. And one is worked out, byte by byte: a page of nine bands, plain and
 -- coded, a tenth, a wrong checksum, a Print, a status that is set between two clock bytes, an Initialize.
-use Rattle.std.specs.Prelude.{◌≡◌, refl, List, [], ◌∷◌, ◌++◌, ℕ, zero, suc, ◌/◌, ◌%◌, ◌≤◌, ◌<◌, length, take, replicate}
-use Rattle.strip.specs.declared.Answer.{Answer}
-use Rattle.strip.specs.declared.Answer.TheVariants.{Reply, Initialized, Added, Ended, Inquired, Printed, Refused}
+use Rattle.std.specs.Prelude.{◌≡◌, refl, Ok, Err, List, [], ◌∷◌, ◌++◌, ℕ, zero, suc, ◌/◌, ◌%◌, ◌≤◌, ◌<◌, length, take, replicate}
+use Rattle.refusal.specs.declared.Fault.TheVariants as fault
+use Rattle.strip.specs.declared.Answer.TheVariants.{Reply, Initialized, Added, Ended, Inquired, Printed}
 use Rattle.strip.specs.Packets.{fitting, sum_from, checksum}
 use Rattle.strip.specs.Coding.{expand_from}
 use Rattle.strip.specs.Actions.{action}
 use Rattle.strip.specs.Dots.{printed, four_dots, listed}
 use Rattle.strip.specs.Reading.{reading, plainly, read_on, packet, searching, status}
-use Rattle.strip.specs.Step.{After, leaves, step_in, step_of, unusable, with_status, new_record}
+use Rattle.strip.specs.Step.{After, Answered, leaves, refused_with, step_in, step_of, unusable, with_status, new_record}
 use Rattle.strip.specs.Streams.{Stream}
 
 -- a byte comes, or the host sets the status
@@ -36,23 +36,23 @@ Bytes (sets v ∷ hs) = Bytes hs
 -- whatever comes to a new record, with room for nine bands in both buffers, makes a stream: every byte is taken
 abbrev pub EveryStream : Type 0
 EveryStream =
-    (hs : List Happening) (a : Answer) (bs ds : List ℕ) → Bytes hs → 5760 ≤ length bs → 5760 ≤ length ds
+    (hs : List Happening) (a : Answered) (bs ds : List ℕ) → Bytes hs → 5760 ≤ length bs → 5760 ≤ length ds
     → Stream (bytes_of hs) (outcome_of hs (leaves new_record a bs ds)).rec (outcome_of hs (leaves new_record a bs ds)).bands
 
 -- ---- a stream worked out
 
-abbrev heard_of : Answer → List Answer → List Answer
-heard_of (Reply zero) xs = xs
-heard_of (Reply (suc n)) xs = Reply (suc n) ∷ xs
-heard_of Initialized xs = Initialized ∷ xs
-heard_of (Added n) xs = Added n ∷ xs
-heard_of Ended xs = Ended ∷ xs
-heard_of Inquired xs = Inquired ∷ xs
-heard_of (Printed n m d) xs = Printed n m d ∷ xs
-heard_of (Refused n p) xs = Refused n p ∷ xs
+abbrev heard_of : Answered → List Answered → List Answered
+heard_of (Ok (Reply zero)) xs = xs
+heard_of (Ok (Reply (suc n))) xs = Ok (Reply (suc n)) ∷ xs
+heard_of (Ok Initialized) xs = Ok Initialized ∷ xs
+heard_of (Ok (Added n)) xs = Ok (Added n) ∷ xs
+heard_of (Ok Ended) xs = Ok Ended ∷ xs
+heard_of (Ok Inquired) xs = Ok Inquired ∷ xs
+heard_of (Ok (Printed n m d)) xs = Ok (Printed n m d) ∷ xs
+heard_of (Err r) xs = Err r ∷ xs
 
 -- the answers, but for replies of 0
-unfoldable pub heard : List Happening → After → List Answer
+unfoldable pub heard : List Happening → After → List Answered
 heard [] o = []
 heard (comes b ∷ hs) o = heard_of (step_of o.rec b o.bands o.dots).answer (heard hs (step_of o.rec b o.bands o.dots))
 heard (sets v ∷ hs) o = heard hs (leaves (with_status v o.rec) o.answer o.bands o.dots)
@@ -72,7 +72,7 @@ abbrev clocks : List Happening
 clocks = comes 0x00 ∷ comes 0x00 ∷ []
 
 abbrev fresh : After
-fresh = leaves new_record (Reply 0) (replicate 5760 0) (replicate 5760 0)
+fresh = leaves new_record (Ok (Reply 0)) (replicate 5760 0) (replicate 5760 0)
 
 -- a band of one byte, coded in five runs
 abbrev coded_band : ℕ → List Happening
@@ -98,14 +98,14 @@ abbrev witness : List Happening
 witness = printed_page ++ packet_of 0x01 0 [] ++ clocks
 
 -- 81 and the status, after a packet that acted
-abbrev acknowledged : ℕ → List Answer
-acknowledged v = Reply 0x81 ∷ Reply v ∷ []
+abbrev acknowledged : ℕ → List Answered
+acknowledged v = Ok (Reply 0x81) ∷ Ok (Reply v) ∷ []
 
 pub record WitnessCases : Type 0 where
   pub hears : heard witness fresh
-      ≡ Initialized ∷ acknowledged 2 ++ Added 1 ∷ acknowledged 2 ++ Added 2 ∷ acknowledged 2 ++ Added 3 ∷ acknowledged 2 ++ Added 4 ∷ acknowledged 2
-      ++ Added 5 ∷ acknowledged 2 ++ Added 6 ∷ acknowledged 2 ++ Added 7 ∷ acknowledged 2 ++ Added 8 ∷ acknowledged 2 ++ Added 9 ∷ acknowledged 2
-      ++ Refused 34 0 ∷ Refused 31 0 ∷ Printed 9 0x13 0x40 ∷ acknowledged 6 ++ Initialized ∷ acknowledged 6
+      ≡ Ok Initialized ∷ acknowledged 2 ++ Ok (Added 1) ∷ acknowledged 2 ++ Ok (Added 2) ∷ acknowledged 2 ++ Ok (Added 3) ∷ acknowledged 2 ++ Ok (Added 4) ∷ acknowledged 2
+      ++ Ok (Added 5) ∷ acknowledged 2 ++ Ok (Added 6) ∷ acknowledged 2 ++ Ok (Added 7) ∷ acknowledged 2 ++ Ok (Added 8) ∷ acknowledged 2 ++ Ok (Added 9) ∷ acknowledged 2
+      ++ refused_with fault.TooManyBands ∷ refused_with fault.Checksum ∷ Ok (Printed 9 0x13 0x40) ∷ acknowledged 6 ++ Ok Initialized ∷ acknowledged 6
   -- the plain reading of the same bytes: the nine bands wait on after Print, and Initialize empties the page
   pub nine_wait : plainly (bytes_of printed_page)
       ≡ reading (replicate 640 0x0F ∷ replicate 640 2 ∷ replicate 640 3 ∷ replicate 640 4 ∷ replicate 640 5 ∷ replicate 640 6 ∷ replicate 640 7 ∷ replicate 640 8 ∷ replicate 640 9 ∷ []) searching status

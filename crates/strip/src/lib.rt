@@ -3,22 +3,98 @@
 
 ghost use Rattle.std.specs.Prelude.{◌≡◌};
 ghost use Rattle.strip.specs.Packets.{number};
-ghost use Rattle.strip.specs.Step.{at, unusable, new_record};
+ghost use Rattle.strip.specs.Step.{at, refused_with, unusable, new_record};
 
-// Which byte is awaited: one that opens a mark, its second, the four of a header, one of the body, the two of the checksum, the two clock bytes.
+use refusal::{Fault, Refusal};
+
+// The bytes of a band.
+pub const BAND_BYTES: usize = 640;
+
+// The bytes of a body at most.
+pub const BODY_BYTES: usize = 648;
+
+// How many bands wait at most.
+pub const MOST_BANDS: u8 = 9;
+
+// The bytes of so many bands, and of their rows.
+pub const ROOM: usize = 5760;
+
+// The commands that the source has.
+#[derive(Clone, Copy)]
+pub enum Command {
+    Initialize = 1,
+    Print = 2,
+    Data = 4,
+    Inquiry = 15,
+}
+
+impl TryFrom<u8> for Command {
+    ghost use Rattle.strip.specs.Commands.{command_of};
+
+    type Error = Fault;
+
+    ghost try_from_gives = { λ byte r. r ≡ command_of byte };
+
+    fn try_from(byte: u8) -> Result<Command, Fault> {
+        match byte {
+            1 => Ok(Command::Initialize),
+            2 => Ok(Command::Print),
+            4 => Ok(Command::Data),
+            15 => Ok(Command::Inquiry),
+            _ => Err(Fault::UnknownCommand),
+        }
+    }
+}
+
+// Which byte is awaited: one that opens a mark, its second, the four of a header, one of the body, the two of the checksum, the two clock bytes. The
+// numbers are those of the record in C.
 #[derive(Clone, Copy)]
 pub enum Phase {
-    Hunt,
-    Mark,
-    Command,
-    Indicator,
-    Low,
-    High,
-    Body,
-    SumLow,
-    SumHigh,
-    ClockFirst,
-    ClockSecond,
+    Hunt = 0,
+    Mark = 1,
+    Command = 2,
+    Indicator = 3,
+    Low = 4,
+    High = 5,
+    Body = 6,
+    SumLow = 7,
+    SumHigh = 8,
+    ClockFirst = 9,
+    ClockSecond = 10,
+}
+
+impl From<Phase> for u8 {
+    ghost use Rattle.strip.specs.Phases.{number_of};
+
+    ghost from_gives = { λ phase n. n ≡ number_of phase };
+
+    fn from(phase: Phase) -> u8 {
+        phase as u8
+    }
+}
+
+// A number that names no phase is the search for a mark.
+impl From<u8> for Phase {
+    ghost use Rattle.strip.specs.Phases.{phase_of};
+
+    ghost from_gives = { λ n phase. phase ≡ phase_of n };
+
+    #[tactic(auto, unfolding(crate::specs::Phases::phase_of))]
+    fn from(n: u8) -> Phase {
+        match n {
+            1 => Phase::Mark,
+            2 => Phase::Command,
+            3 => Phase::Indicator,
+            4 => Phase::Low,
+            5 => Phase::High,
+            6 => Phase::Body,
+            7 => Phase::SumLow,
+            8 => Phase::SumHigh,
+            9 => Phase::ClockFirst,
+            10 => Phase::ClockSecond,
+            _ => Phase::Hunt,
+        }
+    }
 }
 
 // What the next byte of a coded body is: the first of a run; a byte to be copied so many times; one of a literal run, with so many after it.
@@ -42,10 +118,10 @@ pub struct Receiver {
     pub low: u8,
     pub status: u8,
     pub bands: u8,
-    pub body: [u8; 648],
+    pub body: [u8; BODY_BYTES],
 }
 
-// What a byte is answered. A byte that is taken and gets no reply here is answered 0 on the line.
+// What a byte is answered that is not refused. A byte that is taken and gets no reply here is answered 0 on the line.
 #[derive(Clone, Copy)]
 pub enum Answer {
     Reply(u8),
@@ -54,13 +130,12 @@ pub enum Answer {
     Ended,
     Inquired,
     Printed { count: u8, margins: u8, density: u8 },
-    Refused(u8, usize),
 }
 
 #[derive(Clone, Copy)]
 pub struct Stepped {
     pub rec: Receiver,
-    pub answer: Answer,
+    pub answer: Result<Answer, Refusal>,
 }
 
 // A record before the first byte.
@@ -77,7 +152,7 @@ pub fn new() -> Receiver
         low: 0,
         status: 0,
         bands: 0,
-        body: [0u8; 648],
+        body: [0u8; BODY_BYTES],
     }
 }
 
@@ -85,28 +160,16 @@ pub fn new() -> Receiver
 pub fn go_to(rec: Receiver, phase: Phase) -> Receiver
     ensures { result ≡ at rec phase }
 {
-    let body = rec.body;
-    Receiver {
-        phase: phase,
-        command: rec.command,
-        indicator: rec.indicator,
-        size: rec.size,
-        have: rec.have,
-        sum: rec.sum,
-        low: rec.low,
-        status: rec.status,
-        bands: rec.bands,
-        body: body,
-    }
+    Receiver { phase, ..rec }
 }
 
 // A refusal: the search for a mark begins at the next byte.
-pub fn refuse_with(rec: Receiver, number: u8) -> Stepped
-    ensures { (result.rec ≡ at rec Phase.Hunt) × (result.answer ≡ Answer.Refused number 0) }
+pub fn refuse_with(rec: Receiver, fault: Fault) -> Stepped
+    ensures { (result.rec ≡ at rec Phase.Hunt) × (result.answer ≡ refused_with fault) }
 {
     Stepped {
         rec: go_to(rec, Phase::Hunt),
-        answer: Answer::Refused(number, 0),
+        answer: Err(fault.at(0)),
     }
 }
 
@@ -114,22 +177,13 @@ pub fn refuse_with(rec: Receiver, number: u8) -> Stepped
 pub fn number_of(low: u8, high: u8) -> u16
     ensures { result ≡ number low high }
 {
-    low as u16 + 256 * high as u16
+    u16::from_le_bytes([low, high])
 }
 
 // Whether a call is refused with 36.
-#[tactic(auto, using(crate::proofs::Laws::many_bands))]
+#[tactic(auto, unfolding(crate::specs::Step::unusable))]
 pub fn is_unusable(band_bytes: usize, dot_bytes: usize, waiting: u8, have: u16) -> bool
     ensures { result ≡ unusable band_bytes dot_bytes waiting have }
 {
-    if band_bytes < 5760 {
-        return true;
-    }
-    if dot_bytes < 5760 {
-        return true;
-    }
-    if 9 < waiting {
-        return true;
-    }
-    648 < have
+    band_bytes < ROOM || dot_bytes < ROOM || MOST_BANDS < waiting || BODY_BYTES < have as usize
 }

@@ -7,9 +7,10 @@ use lib.ListN.{length}
 use Rattle.strip.specs.declared.Receiver.{Receiver}
 use Rattle.strip.specs.declared.Phase.{Phase}
 use Rattle.strip.specs.declared.Phase.TheVariants.{Hunt, Mark, Command, Indicator, Low, High, Body, SumLow, SumHigh, ClockFirst, ClockSecond}
-use Rattle.strip.specs.declared.Answer.TheVariants.{Refused}
-use Rattle.strip.specs.Step.{receiver, leaves, taken, unusable, step_in, step_of, new_record}
-use Rattle.strip_numbers.specs.Numbers.{phase_of, number_of, receiver_of, record_of, refusal, Outcome, outcome, of_after, number_step, NumberSteps}
+use Rattle.refusal.specs.declared.Fault.TheVariants.{Unusable}
+use Rattle.strip.specs.Step.{receiver, refused_with, leaves, taken, unusable, step_in, step_of, new_record}
+use Rattle.strip.specs.Phases.{phase_of, number_of}
+use Rattle.strip_numbers.specs.Numbers.{receiver_of, record_of, refusal, Outcome, outcome, of_after, number_step, NumberSteps}
 use Rattle.strip_numbers.specs.Keeps.{KeepsPromise, Keeps}
 use Rattle.strip_numbers.specs.declared.StripRecord.{StripRecord}
 use Rattle.strip_numbers.specs.declared.StripAnswer.{StripAnswer}
@@ -39,9 +40,9 @@ receives r r' b bs ds bs' ds' a e = go (unusable (length bs) (length ds) r.bands
   where
     go : (t : Bool) → unusable (length bs) (length ds) r.bands r.have ≡ t → outcome r' a bs' ds' ≡ cond t (outcome r (refusal 36 0) bs ds) (of_after (step_of (receiver_of r) b bs ds)) → KeepsPromise r b bs ds r' a bs' ds'
     go true q e = record {
-      answer = Refused 36 0;
+      answer = refused_with Unusable;
       numbers_are = ap (λ (o : Outcome). o.answer) e;
-      promised = (λ i. leaves (receiver_of (e i).rec) (Refused 36 0) (e i).bands (e i).dots) ∙ ap (λ (t : Bool). cond t (leaves (receiver_of r) (Refused 36 0) bs ds) (taken (phase_of r.phase) (receiver_of r) b bs ds)) (sym q);
+      promised = (λ i. leaves (receiver_of (e i).rec) (refused_with Unusable) (e i).bands (e i).dots) ∙ ap (λ (t : Bool). cond t (leaves (receiver_of r) (refused_with Unusable) bs ds) (taken (phase_of r.phase) (receiver_of r) b bs ds)) (sym q);
     }
     go false q e = record {
       answer = (step_of (receiver_of r) b bs ds).answer;

@@ -1,3 +1,2 @@
--- Laws that the functions' proofs cite; and that a call on numbers keeps the promise that the statement about streams speaks of: Keeps.
-pub mod Laws
+-- That a call on numbers keeps the promise that the statement about streams speaks of: Keeps.
 pub mod Keeps

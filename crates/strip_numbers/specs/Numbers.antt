@@ -1,43 +1,16 @@
 -- The receiver's record and its answers as numbers.
-use Rattle.std.specs.Prelude.{◌≡◌, refl, cond, List, [], ℕ, eqb, length, replicate}
+use Rattle.std.specs.Prelude.{◌≡◌, refl, Ok, Err, cond, List, [], ℕ, length, replicate}
 use Rattle.strip.specs.declared.Receiver.{Receiver}
-use Rattle.strip.specs.declared.Phase.{Phase}
-use Rattle.strip.specs.declared.Phase.TheVariants.{Hunt, Mark, Command, Indicator, Low, High, Body, SumLow, SumHigh, ClockFirst, ClockSecond}
+use Rattle.strip.specs.declared.Phase.TheVariants.{Hunt}
+use Rattle.refusal.specs.declared.Refusal.{Refusal}
 use Rattle.strip.specs.declared.Answer.{Answer}
-use Rattle.strip.specs.declared.Answer.TheVariants.{Reply, Initialized, Added, Ended, Inquired, Printed, Refused}
-use Rattle.strip.specs.Step.{After, receiver, step_of, unusable, new_record}
+use Rattle.strip.specs.declared.Answer.TheVariants.{Reply, Initialized, Added, Ended, Inquired, Printed}
+use Rattle.refusal.specs.declared.Fault.TheVariants.{Checksum}
+use Rattle.refusal.specs.Faults as faults
+use Rattle.strip.specs.Phases.{phase_of, number_of}
+use Rattle.strip.specs.Step.{After, Answered, refused_with, receiver, step_of, unusable, new_record}
 use Rattle.strip_numbers.specs.declared.StripRecord.{StripRecord}
 use Rattle.strip_numbers.specs.declared.StripAnswer.{StripAnswer}
-
--- ---- the phase
-
--- a number that names no phase is the search for a mark
-unfoldable pub phase_of : ℕ → Phase
-phase_of n =
-    cond (eqb n 1) Mark
-    (cond (eqb n 2) Command
-    (cond (eqb n 3) Indicator
-    (cond (eqb n 4) Low
-    (cond (eqb n 5) High
-    (cond (eqb n 6) Body
-    (cond (eqb n 7) SumLow
-    (cond (eqb n 8) SumHigh
-    (cond (eqb n 9) ClockFirst
-    (cond (eqb n 10) ClockSecond
-    Hunt)))))))))
-
-abbrev pub number_of : Phase → ℕ
-number_of Hunt = 0
-number_of Mark = 1
-number_of Command = 2
-number_of Indicator = 3
-number_of Low = 4
-number_of High = 5
-number_of Body = 6
-number_of SumLow = 7
-number_of SumHigh = 8
-number_of ClockFirst = 9
-number_of ClockSecond = 10
 
 -- ---- the record
 
@@ -78,14 +51,20 @@ abbrev pub refusal : (number place : ℕ) → StripAnswer
 refusal number place = record { kind = 1; reply = 0; event = 0; bands = 0; margins = 0; density = 0; number = number; place = place }
 
 -- events: 0 none, 1 Initialize, 2 a band, 3 Data with no body, 4 Inquiry, 5 Print
-abbrev pub answer_of : Answer → StripAnswer
-answer_of (Reply x) = done x 0 0 0 0
-answer_of Initialized = done 0 1 0 0 0
-answer_of (Added count) = done 0 2 count 0 0
-answer_of Ended = done 0 3 0 0 0
-answer_of Inquired = done 0 4 0 0 0
-answer_of (Printed count margins density) = done 0 5 count margins density
-answer_of (Refused number place) = refusal number place
+abbrev pub event_of : Answer → StripAnswer
+event_of (Reply x) = done x 0 0 0 0
+event_of Initialized = done 0 1 0 0 0
+event_of (Added count) = done 0 2 count 0 0
+event_of Ended = done 0 3 0 0 0
+event_of Inquired = done 0 4 0 0 0
+event_of (Printed count margins density) = done 0 5 count margins density
+
+abbrev pub refusal_of : Refusal → StripAnswer
+refusal_of r = refusal (faults.number_of r.fault) r.place
+
+abbrev pub answer_of : Answered → StripAnswer
+answer_of (Ok answer) = event_of answer
+answer_of (Err r) = refusal_of r
 
 -- ---- one byte
 
@@ -118,14 +97,14 @@ in_phase n = numbered n 0 0 0 0 0 0 0 0 (replicate 648 0)
 
 pub record NumberCases : Type 0 where
   pub new_record_case : record_of new_record ≡ in_phase 0
-  pub reply : answer_of (Reply 0x81) ≡ record { kind = 0; reply = 0x81; event = 0; bands = 0; margins = 0; density = 0; number = 0; place = 0 }
-  pub printed : answer_of (Printed 9 0x13 0x40) ≡ record { kind = 0; reply = 0; event = 5; bands = 9; margins = 0x13; density = 0x40; number = 0; place = 0 }
-  pub refused : answer_of (Refused 31 0) ≡ record { kind = 1; reply = 0; event = 0; bands = 0; margins = 0; density = 0; number = 31; place = 0 }
-  pub initialized : (answer_of Initialized).event ≡ 1
-  pub added : (answer_of (Added 3)).event ≡ 2
-  pub added_count : (answer_of (Added 3)).bands ≡ 3
-  pub ended : (answer_of Ended).event ≡ 3
-  pub inquired : (answer_of Inquired).event ≡ 4
+  pub reply : answer_of (Ok (Reply 0x81)) ≡ record { kind = 0; reply = 0x81; event = 0; bands = 0; margins = 0; density = 0; number = 0; place = 0 }
+  pub printed : answer_of (Ok (Printed 9 0x13 0x40)) ≡ record { kind = 0; reply = 0; event = 5; bands = 9; margins = 0x13; density = 0x40; number = 0; place = 0 }
+  pub refused : answer_of (refused_with Checksum) ≡ record { kind = 1; reply = 0; event = 0; bands = 0; margins = 0; density = 0; number = 31; place = 0 }
+  pub initialized : (answer_of (Ok Initialized)).event ≡ 1
+  pub added : (answer_of (Ok (Added 3))).event ≡ 2
+  pub added_count : (answer_of (Ok (Added 3))).bands ≡ 3
+  pub ended : (answer_of (Ok Ended)).event ≡ 3
+  pub inquired : (answer_of (Ok Inquired)).event ≡ 4
   -- 36 leaves a phase that no number names; a byte that is taken is searched in it
   pub left : (number_step (in_phase 200) 7 [] []).rec.phase ≡ 200
   pub searched : phase_of 200 ≡ Hunt

@@ -1,15 +1,12 @@
 -- Laws that the functions' proofs cite, over plain lists and numbers. Assumes nothing.
 use mathlib.Core.Path.{◌≡◌, refl, sym, ap, ◌∙◌}
-use mathlib.Core.Bool.{Bool, true, false, cond, ◌&&◌}
-use mathlib.Core.List.{List, [], ◌∷◌, ◌++◌, append_assoc, append-nil}
-use Prim.Native.Nat.{ℕ, zero, suc, ◌+◌, ◌*◌, ◌-◌, ◌/◌, ◌%◌, ◌^◌, ◌≤◌, ◌<◌}
+use mathlib.Core.List.{List, [], ◌∷◌, ◌++◌, append_assoc}
+use Prim.Native.Nat.{ℕ, zero, suc, ◌+◌, ◌*◌, ◌-◌, ◌/◌, ◌%◌, ◌^◌, ◌<◌}
 use native.Mathlib.Omega.{arith}
 use native.Mathlib.Numerals.{add-one}
-use borrow.Author.Tests.{le-leb, leb-true}
-use lib.Dec.{leb}
-use lib.ListN.{length, get_or, set, drop, replicate}
+use lib.ListN.{length, get_or, set, drop}
 use lib.Seq.{drop-cons, set_at}
-use Rattle.strip.specs.Dots.{bit_at, index_of, shade, tile_byte, dot_of, four_dots, listed, printed, printing}
+use Rattle.strip.specs.Dots.{bit_at, index_of, shade, tile_byte, dot_of, four_dots, listed, printed}
 use Rattle.strip_rows.specs.Table.{four, entry_of}
 
 -- ---- shades
@@ -37,12 +34,6 @@ module _ (f : ℕ → ℕ) where
   listed-length i zero = refl
   listed-length i (suc n) = ap suc (listed-length (suc i) n)
 
-  listed_at : (n i k : ℕ) → k < n → get_or (listed f i n) k 0 ≡ f (i + k)
-  unfolding listed
-  listed_at zero i k h = absurd (omega arith)
-  listed_at (suc n) i zero h = ap f (omega arith)
-  listed_at (suc n) i (suc k) h = listed_at n (suc i) k (omega arith) ∙ ap f (omega arith)
-
   listed_snoc : (i n : ℕ) → listed f i (suc n) ≡ listed f i n ++ (f (i + n) ∷ [])
   unfolding listed
   listed_snoc i zero = ap (λ (x : ℕ). f x ∷ []) (omega arith)
@@ -62,25 +53,6 @@ module _ (f : ℕ → ℕ) where
       ∙ ap (λ (x : List ℕ). x ++ drop (suc i) d₀) (sym (listed_snoc 0 i))
       ∙ ap (λ (x : ℕ). listed f 0 x ++ drop x d₀) (sym (add-one i))
 
--- ---- the table
-
--- the table as it starts
-unfoldable pub zeros : List ℕ
-zeros = replicate 256 0
-
-module _ (p : ℕ) where
-  pub table_begins : replicate 256 0 ≡ written (entry_of p) 0 zeros
-  unfolding zeros
-  table_begins = begins (entry_of p) (replicate 256 0)
-
-  pub table_goes_on : (t : List ℕ) (k v : ℕ) → t ≡ written (entry_of p) k zeros → v ≡ four p (k % 16) (k / 16) 4 → k < 256 → set t k v ≡ written (entry_of p) (k + 1) zeros
-  unfolding zeros entry_of
-  table_goes_on t k v e q l = goes_on (entry_of p) t zeros k v e q l
-
-  pub table_ends : (t : List ℕ) (k : ℕ) → t ≡ written (entry_of p) k zeros → k ≡ 256 → t ≡ listed (entry_of p) 0 256
-  unfolding zeros written
-  table_ends t k e q = e ∙ ap (λ (x : ℕ). written (entry_of p) x zeros) q ∙ append-nil (listed (entry_of p) 0 256)
-
 -- ---- four dots by the table
 
 -- four bits of f from place x on are those of g from place y on
@@ -98,15 +70,17 @@ same-four : (p f s x f' s' x' : ℕ) → Same f x f' x' → Same s x s' x' → f
 same-four p f s x f' s' x' a b =
     λ k. 64 * shade p (a.0 k + 2 * b.0 k) + 16 * shade p (a.1 k + 2 * b.1 k) + 4 * shade p (a.2 k + 2 * b.2 k) + shade p (a.3 k + 2 * b.3 k)
 
+-- the table: entry k is four dots by the nibbles of k
+abbrev pub IsTable : ℕ → List ℕ → Type 0
+IsTable p t = (k : ℕ) → k < 256 → get_or t k 0 ≡ entry_of p k
+
 -- the table at two nibbles
-looked_up : (p l h : ℕ) (t : List ℕ) → t ≡ listed (entry_of p) 0 256 → l < 16 → h < 16 → get_or t (16 * h + l) 0 ≡ four p l h 4
+looked_up : (p l h : ℕ) (t : List ℕ) → IsTable p t → l < 16 → h < 16 → get_or t (16 * h + l) 0 ≡ four p l h 4
 unfolding entry_of
-looked_up p l h t e m n =
+looked_up p l h t g m n =
     let a : (16 * h + l) % 16 ≡ l = omega arith in
     let b : (16 * h + l) / 16 ≡ h = omega arith in
-    ap (λ (x : List ℕ). get_or x (16 * h + l) 0) e ∙ listed_at (entry_of p) 256 0 (16 * h + l) (omega arith)
-    ∙ ap (λ (x : ℕ). entry_of p x) (omega arith)
-    ∙ (λ k. four p (a k) (b k) 4)
+    g (16 * h + l) (omega arith) ∙ (λ k. four p (a k) (b k) 4)
 
 pub in_bands : (i n : ℕ) → i < 320 * n → tile_byte (i / 20) (8 * (i % 20)) + 1 < 640 * n
 in_bands i n h =
@@ -138,13 +112,13 @@ module _ (bands : List ℕ) (p i s place at : ℕ) (l : s < 2) (e : place ≡ 2 
       let d = dot_at 3 (x + 3) (4 * s + 3) (omega arith) refl refl in
       λ k. 64 * a k + 16 * b k + 4 * c k + d k
 
-  by_table : (t : List ℕ) (v l h : ℕ) → t ≡ listed (entry_of p) 0 256 → l < 16 → h < 16 → Same l 4 (get_or bands at 0) (4 * s) → Same h 4 (get_or bands (at + 1) 0) (4 * s)
+  by_table : (t : List ℕ) (v l h : ℕ) → IsTable p t → l < 16 → h < 16 → Same l 4 (get_or bands at 0) (4 * s) → Same h 4 (get_or bands (at + 1) 0) (4 * s)
       → v ≡ get_or t (16 * h + l) 0 → v ≡ four_dots bands p place
   by_table t v l h g m n a b u = u ∙ looked_up p l h t g m n ∙ same-four p l h 4 (get_or bands at 0) (get_or bands (at + 1) 0) (4 * s) a b ∙ half
 
 -- a turn of the loop
 module _ (bands t d d₀ : List ℕ) (p i at v w : ℕ) where
-  pub pair_goes_on : at ≡ tile_byte (i / 20) (8 * (i % 20)) → t ≡ listed (entry_of p) 0 256 → get_or bands at 0 < 256 → get_or bands (at + 1) 0 < 256
+  pub pair_goes_on : at ≡ tile_byte (i / 20) (8 * (i % 20)) → IsTable p t → get_or bands at 0 < 256 → get_or bands (at + 1) 0 < 256
       → v ≡ get_or t (16 * (get_or bands (at + 1) 0 / 16) + get_or bands at 0 / 16) 0 → w ≡ get_or t (16 * (get_or bands (at + 1) 0 % 16) + get_or bands at 0 % 16) 0
       → 2 * i + 1 < length d₀ → d ≡ written (four_dots bands p) (2 * i) d₀ → set (set d (2 * i) v) (2 * i + 1) w ≡ written (four_dots bands p) (2 * (i + 1)) d₀
   pair_goes_on q g m n x y l e =
@@ -158,17 +132,3 @@ module _ (bands t d d₀ : List ℕ) (p i at v w : ℕ) where
 pub ends : (bands : List ℕ) (n palette : ℕ) (d d₀ : List ℕ) (i : ℕ) → d ≡ written (four_dots bands palette) (2 * i) d₀ → i ≡ 320 * n → d ≡ printed bands n palette d₀
 unfolding printed written
 ends bands n palette d d₀ i e q = let r : 2 * i ≡ 640 * n = omega arith in e ∙ ap (λ (x : ℕ). written (four_dots bands palette) x d₀) r
-
-module _ (bands : List ℕ) (n palette : ℕ) (dots : List ℕ) where
-  pub prints : (d : List ℕ) → 640 * n ≤ length bands → 640 * n ≤ length dots → d ≡ printed bands n palette dots → d ≡ printing bands n palette dots
-  unfolding printing
-  prints d h l e = rw (le-leb _ _ h, le-leb _ _ l) e
-
-  pub prints_nothing : (640 * n ≤ length bands → 640 * n ≤ length dots → ⊥) → dots ≡ printing bands n palette dots
-  unfolding printing
-  prints_nothing h = ap (λ (x : Bool). cond x (printed bands n palette dots) dots) (is_false (leb (640 * n) (length bands)) (leb (640 * n) (length dots)) refl refl)
-    where
-      is_false : (x y : Bool) → x ≡ leb (640 * n) (length bands) → y ≡ leb (640 * n) (length dots) → false ≡ x && y
-      is_false false y e q = refl
-      is_false true false e q = refl
-      is_false true true e q = absurd (h (leb-true _ _ (sym e)) (leb-true _ _ (sym q)))

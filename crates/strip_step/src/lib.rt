@@ -1,104 +1,58 @@
 // One byte to the strip printer's receiver, by value.
 #![tactic(auto)]
 
-ghost use Rattle.std.specs.Prelude.{◌≡◌, false, length, if◌then◌else◌, nat_eq};
+ghost use Rattle.std.specs.Prelude.{◌≡◌, Ok, false, length, if◌then◌else◌, nat_eq};
 ghost use Rattle.strip.specs.Packets.{fitting, add16};
 ghost use Rattle.strip.specs.Step.{noted, after_byte, with_byte, bodied, leaves, taken, unusable, Steps};
 ghost use Rattle.strip_step.specs.Heads.{Heads};
 
-use strip::{Answer, Phase, Receiver, Stepped, go_to, is_unusable, number_of, refuse_with};
+use refusal::Fault;
+use strip::{
+    Answer, BAND_BYTES, BODY_BYTES, Command, Phase, Receiver, Stepped, go_to, is_unusable,
+    number_of, refuse_with,
+};
 
 // Whether indicator and length fit the command.
+#[tactic(auto, unfolding(strip::specs::Packets::fitting))]
 fn fits(command: u8, indicator: u8, size: u16) -> bool
     ensures { result ≡ fitting command indicator size }
 {
-    if command == 4 {
-        if indicator == 0 {
-            if size == 0 {
-                return true;
-            }
-            return size == 640;
-        }
-        if indicator == 1 {
-            if size == 0 {
-                return false;
-            }
-            return size <= 648;
-        }
-        return false;
+    let bytes = size as usize;
+    match Command::try_from(command) {
+        Ok(Command::Data) => match indicator {
+            0 => bytes == 0 || bytes == BAND_BYTES,
+            1 => 1 <= bytes && bytes <= BODY_BYTES,
+            _ => false,
+        },
+        Ok(Command::Print) => indicator == 0 && bytes == 4,
+        Ok(Command::Initialize | Command::Inquiry) => indicator == 0 && bytes == 0,
+        Err(_) => bytes <= BODY_BYTES,
     }
-    if command == 2 {
-        if indicator == 0 {
-            return size == 4;
-        }
-        return false;
-    }
-    if command == 1 {
-        if indicator == 0 {
-            return size == 0;
-        }
-        return false;
-    }
-    if command == 15 {
-        if indicator == 0 {
-            return size == 0;
-        }
-        return false;
-    }
-    size <= 648
 }
 
 // One more byte in the checksum: carried past 65,535 it starts again at zero.
 fn add(sum: u16, byte: u8) -> u16
     ensures { result ≡ add16 sum byte }
 {
-    std::num::wrapping_add_u16(sum, byte as u16)
+    sum.wrapping_add(byte as u16)
 }
 
 fn after_hunt(byte: u8) -> Phase
     ensures { result ≡ (if nat_eq byte 0x88 then Phase.Mark else Phase.Hunt) }
 {
-    if byte == 0x88 {
-        return Phase::Mark;
+    match byte {
+        0x88 => Phase::Mark,
+        _ => Phase::Hunt,
     }
-    Phase::Hunt
 }
 
 // A second 88 counts as a first.
 fn after_mark(byte: u8) -> Phase
     ensures { result ≡ (if nat_eq byte 0x33 then Phase.Command else (if nat_eq byte 0x88 then Phase.Mark else Phase.Hunt)) }
 {
-    if byte == 0x33 {
-        return Phase::Command;
-    }
-    after_hunt(byte)
-}
-
-// The record with other numbers of its packet.
-fn note(
-    rec: Receiver,
-    phase: Phase,
-    command: u8,
-    indicator: u8,
-    size: u16,
-    have: u16,
-    sum: u16,
-    low: u8,
-) -> Receiver
-    ensures { result ≡ noted rec phase command indicator size have sum low }
-{
-    let body = rec.body;
-    Receiver {
-        phase: phase,
-        command: command,
-        indicator: indicator,
-        size: size,
-        have: have,
-        sum: sum,
-        low: low,
-        status: rec.status,
-        bands: rec.bands,
-        body: body,
+    match byte {
+        0x33 => Phase::Command,
+        _ => after_hunt(byte),
     }
 }
 
@@ -106,31 +60,22 @@ fn note(
 fn after_body(have: u16, size: u16) -> Phase
     ensures { result ≡ after_byte have size }
 {
-    if size <= have {
-        return Phase::SumLow;
+    if have < size && (have as usize) < BODY_BYTES {
+        Phase::Body
+    } else {
+        Phase::SumLow
     }
-    if 648 <= have {
-        return Phase::SumLow;
-    }
-    Phase::Body
 }
 
-fn with_byte(rec: Receiver, byte: u8, have: u16, body: [u8; 648]) -> Receiver
+fn with_byte(rec: Receiver, byte: u8, have: u16, body: [u8; BODY_BYTES]) -> Receiver
     ensures { result ≡ with_byte rec byte have body }
 {
-    let phase = after_body(have, rec.size);
-    let sum = add(rec.sum, byte);
     Receiver {
-        phase: phase,
-        command: rec.command,
-        indicator: rec.indicator,
-        size: rec.size,
-        have: have,
-        sum: sum,
-        low: rec.low,
-        status: rec.status,
-        bands: rec.bands,
-        body: body,
+        phase: after_body(have, rec.size),
+        have,
+        sum: add(rec.sum, byte),
+        body,
+        ..rec
     }
 }
 
@@ -140,7 +85,7 @@ fn body_byte(rec: Receiver, byte: u8) -> Receiver
 {
     let have = rec.have as usize;
     let mut body = rec.body;
-    if have < 648 {
+    if have < BODY_BYTES {
         body[have] = byte;
         return with_byte(rec, byte, rec.have + 1, body);
     }
@@ -151,10 +96,20 @@ fn body_byte(rec: Receiver, byte: u8) -> Receiver
 fn after_header(size: u16) -> Phase
     ensures { result ≡ (if nat_eq size 0 then Phase.SumLow else Phase.Body) }
 {
-    if size == 0 {
-        return Phase::SumLow;
+    match size {
+        0 => Phase::SumLow,
+        _ => Phase::Body,
     }
-    Phase::Body
+}
+
+// What a byte is replied, and the record then.
+fn reply(rec: Receiver, byte: u8) -> Stepped
+    ensures { (result.rec ≡ rec) × (result.answer ≡ Ok (Answer.Reply byte)) }
+{
+    Stepped {
+        rec,
+        answer: Ok(Answer::Reply(byte)),
+    }
 }
 
 // The header's last byte.
@@ -162,138 +117,95 @@ fn header_end(rec: Receiver, byte: u8) -> Stepped
     ensures { Heads rec byte result.rec result.answer }
 {
     let size = number_of(rec.low, byte);
-    let sum = add(rec.sum, byte);
-    if fits(rec.command, rec.indicator, size) {
-        let phase = after_header(size);
-        let next = note(
-            rec,
-            phase,
-            rec.command,
-            rec.indicator,
-            size,
-            0,
-            sum,
-            rec.low,
-        );
-        return Stepped {
-            rec: next,
-            answer: Answer::Reply(0),
-        };
+    if !fits(rec.command, rec.indicator, size) {
+        return refuse_with(rec, Fault::PacketHeader);
     }
-    refuse_with(rec, 33)
-}
-
-// A byte that is answered 0 whatever it is; the record is then `next`.
-fn quiet(next: Receiver) -> Stepped
-    ensures { (result.rec ≡ next) × (result.answer ≡ Answer.Reply 0) }
-{
-    Stepped {
-        rec: next,
-        answer: Answer::Reply(0),
-    }
+    let next = Receiver {
+        phase: after_header(size),
+        size,
+        have: 0,
+        sum: add(rec.sum, byte),
+        ..rec
+    };
+    reply(next, 0)
 }
 
 // The first byte of a header, with which the sum begins.
 fn command_byte(rec: Receiver, byte: u8) -> Receiver
     ensures { result ≡ noted rec Phase.Indicator byte rec.indicator rec.size rec.have byte rec.low }
 {
-    let sum = byte as u16;
-    note(
-        rec,
-        Phase::Indicator,
-        byte,
-        rec.indicator,
-        rec.size,
-        rec.have,
-        sum,
-        rec.low,
-    )
+    Receiver {
+        phase: Phase::Indicator,
+        command: byte,
+        sum: byte as u16,
+        ..rec
+    }
 }
 
 fn indicator_byte(rec: Receiver, byte: u8) -> Receiver
     ensures { result ≡ noted rec Phase.Low rec.command byte rec.size rec.have (add16 rec.sum byte) rec.low }
 {
-    let sum = add(rec.sum, byte);
-    note(
-        rec,
-        Phase::Low,
-        rec.command,
-        byte,
-        rec.size,
-        rec.have,
-        sum,
-        rec.low,
-    )
+    Receiver {
+        phase: Phase::Low,
+        indicator: byte,
+        sum: add(rec.sum, byte),
+        ..rec
+    }
 }
 
 // The low byte of the length.
 fn low_byte(rec: Receiver, byte: u8) -> Receiver
     ensures { result ≡ noted rec Phase.High rec.command rec.indicator rec.size rec.have (add16 rec.sum byte) byte }
 {
-    let sum = add(rec.sum, byte);
-    note(
-        rec,
-        Phase::High,
-        rec.command,
-        rec.indicator,
-        rec.size,
-        rec.have,
-        sum,
-        byte,
-    )
+    Receiver {
+        phase: Phase::High,
+        sum: add(rec.sum, byte),
+        low: byte,
+        ..rec
+    }
 }
 
 // The low byte of the checksum.
 fn sum_byte(rec: Receiver, byte: u8) -> Receiver
     ensures { result ≡ noted rec Phase.SumHigh rec.command rec.indicator rec.size rec.have rec.sum byte }
 {
-    note(
-        rec,
-        Phase::SumHigh,
-        rec.command,
-        rec.indicator,
-        rec.size,
-        rec.have,
-        rec.sum,
-        byte,
-    )
+    Receiver {
+        phase: Phase::SumHigh,
+        low: byte,
+        ..rec
+    }
 }
 
 // A byte that is taken.
+#[tactic(auto, unfolding(strip::specs::Step::step_in))]
 fn take_byte(rec: Receiver, byte: u8, bands: &mut [u8], dots: &mut [u8]) -> Stepped
     requires { unusable (length bands.old) (length dots.old) rec.bands rec.have ≡ false }
     ensures { leaves result.rec result.answer bands.new dots.new ≡ taken rec.phase rec byte bands.old dots.old }
 {
-    let phase = rec.phase;
-    match phase {
-        Phase::Hunt => quiet(go_to(rec, after_hunt(byte))),
-        Phase::Mark => quiet(go_to(rec, after_mark(byte))),
-        Phase::Command => quiet(command_byte(rec, byte)),
-        Phase::Indicator => quiet(indicator_byte(rec, byte)),
-        Phase::Low => quiet(low_byte(rec, byte)),
+    match rec.phase {
+        Phase::Hunt => reply(go_to(rec, after_hunt(byte)), 0),
+        Phase::Mark => reply(go_to(rec, after_mark(byte)), 0),
+        Phase::Command => reply(command_byte(rec, byte), 0),
+        Phase::Indicator => reply(indicator_byte(rec, byte), 0),
+        Phase::Low => reply(low_byte(rec, byte), 0),
         Phase::High => header_end(rec, byte),
-        Phase::Body => quiet(body_byte(rec, byte)),
-        Phase::SumLow => quiet(sum_byte(rec, byte)),
+        Phase::Body => reply(body_byte(rec, byte), 0),
+        Phase::SumLow => reply(sum_byte(rec, byte), 0),
         Phase::SumHigh => strip_close::close(rec, byte, bands, dots),
-        Phase::ClockFirst => Stepped {
-            rec: go_to(rec, Phase::ClockSecond),
-            answer: Answer::Reply(0x81),
-        },
-        Phase::ClockSecond => Stepped {
-            rec: go_to(rec, Phase::Hunt),
-            answer: Answer::Reply(rec.status),
-        },
+        Phase::ClockFirst => reply(go_to(rec, Phase::ClockSecond), 0x81),
+        Phase::ClockSecond => reply(go_to(rec, Phase::Hunt), rec.status),
     }
 }
 
 // One arriving byte.
+#[tactic(auto, unfolding(strip::specs::Step::step_in))]
 pub fn step(rec: Receiver, byte: u8, bands: &mut [u8], dots: &mut [u8]) -> Stepped
     ensures { Steps rec byte bands.old dots.old result.rec result.answer bands.new dots.new }
 {
     if is_unusable(bands.len(), dots.len(), rec.bands, rec.have) {
         return Stepped {
-            rec: rec,
-            answer: Answer::Refused(36, 0),
+            rec,
+            answer: Err(Fault::Unusable.at(0)),
         };
     }
     take_byte(rec, byte, bands, dots)

@@ -4,129 +4,63 @@
 // longer input it prints `input too long` alone. What it must print for the file stdin beside src/ is in the file stdout there.
 #![tactic(auto)]
 
-ghost use Rattle.std.specs.Prelude.{◌≤◌, ◌<◌, length};
-
-use film_check::Checked;
+use film_check::check;
 use reading::read_full;
 use std::io;
 
-// Where the first byte b of the text stands; the text's length where there is none.
-fn find(text: &[u8], b: u8) -> usize
-    ensures { result ≤ length text.now }
-{
-    for (i, x) in text.iter().enumerate() {
-        if *x == b {
-            return i;
-        }
-    }
-    text.len()
+// The byte of two hexadecimal digits.
+fn pair(high: u8, low: u8) -> Option<u8> {
+    let high = char::from(high).to_digit(16)?;
+    let low = char::from(low).to_digit(16)?;
+    u8::try_from(16 * high + low).ok()
 }
 
-// The value of a hexadecimal digit; 16 for any other character.
-fn digit(c: u8) -> u8 {
-    if c < b'0' {
-        16
-    } else if c <= b'9' {
-        c - b'0'
-    } else if c < b'A' {
-        16
-    } else if c <= b'F' {
-        c - b'A' + 10
-    } else if c < b'a' {
-        16
-    } else if c <= b'f' {
-        c - b'a' + 10
-    } else {
-        16
+// The bytes of a field, `-` or pairs of digits, at least one. They are put at its start.
+fn decode(field: &mut [u8]) -> Option<&[u8]> {
+    if &*field == b"-".as_slice() {
+        return Some(b"");
     }
-}
-
-fn has_digits_only(field: &[u8]) -> bool {
-    field.iter().all(|c| digit(*c) < 16)
-}
-
-// Whether the field is `-`, or pairs of digits, at least one.
-fn is_bytes(field: &[u8]) -> bool {
-    if field.len() == 1 {
-        return field[0] == b'-';
+    if field.is_empty() || field.len() % 2 == 1 {
+        return None;
     }
-    if field.len() == 0 {
-        return false;
-    }
-    if field.len() % 2 == 1 {
-        return false;
-    }
-    has_digits_only(field)
-}
-
-// The byte of two digits.
-fn byte(high: u8, low: u8) -> u8 {
-    16 * (digit(high) % 16) + digit(low) % 16
-}
-
-// Puts the bytes of the pairs of digits at the start of the field, in half of its length; `-` has none.
-fn decode(field: &mut [u8]) {
+    // Indices: the bytes are written where the digits are read.
     for i in 0..field.len() / 2 {
-        field[i] = byte(field[2 * i], field[2 * i + 1]);
+        field[i] = pair(field[2 * i], field[2 * i + 1])?;
     }
+    field.get(..field.len() / 2)
 }
 
-fn print_answer(rt: &impl Print, answer: Checked) -> io::Result<()> {
-    match answer {
-        Checked::Pages(n) => println!(rt; "pages {n}"),
-        Checked::Refused(r) => println!(rt; "refused {} at {}", r.number, r.place),
-    }
+// The sheet and the load: what stands after the name and its blank.
+fn read_case(fields: &mut [u8]) -> Option<(&[u8], &[u8])> {
+    let n = fields.iter().position(|b| *b == b' ')?;
+    let (sheet, load) = fields.split_at_mut(n);
+    Some((decode(sheet)?, decode(&mut load[1..])?))
 }
 
 fn print_bad_line(rt: &impl Print) -> io::Result<()> {
     println!(rt; "bad line")
 }
 
-fn print_name(rt: &impl Print, name: &[u8]) -> io::Result<()> {
-    if name.len() > 0 {
-        rt.write_all(name)?;
-        print!(rt; " ")?;
-    }
-    Ok(())
-}
-
-// The check of a decoded case: the blank between the sheet's field and the load's stands at place n.
-fn check_decoded(rt: &impl Print, fields: &[u8], n: usize) -> io::Result<()>
-    requires { n < length fields.now }
-{
-    let from = n + 1;
-    let to = from + (fields.len() - from) / 2;
-    print_answer(rt, film_check::check(&fields[0..n / 2], &fields[from..to]))
-}
-
-// Runs what stands after the name and its blank.
-fn run_fields(rt: &impl Print, fields: &mut [u8]) -> io::Result<()> {
-    let n = find(fields, b' ');
-    if n >= fields.len() {
-        print_bad_line(rt)
-    } else if !is_bytes(&fields[0..n]) {
-        print_bad_line(rt)
-    } else if !is_bytes(&fields[n + 1..]) {
-        print_bad_line(rt)
-    } else {
-        decode(&mut fields[0..n]);
-        decode(&mut fields[n + 1..]);
-        check_decoded(rt, fields, n)
-    }
-}
-
 fn run_line(rt: &impl Print, line: &mut [u8]) -> io::Result<()> {
-    if line.len() == 0 {
+    if line.is_empty() {
         return Ok(());
     }
-    let n = find(line, b' ');
-    print_name(rt, &line[0..n])?;
-    if n == 0 {
-        print_bad_line(rt)
-    } else if n < line.len() {
-        run_fields(rt, &mut line[n + 1..])
-    } else {
-        print_bad_line(rt)
+    let n = line.iter().position(|b| *b == b' ').unwrap_or(line.len());
+    let (name, fields) = line.split_at_mut(n);
+    if name.is_empty() {
+        return print_bad_line(rt);
+    }
+    rt.write_all(name)?;
+    print!(rt; " ")?;
+    if fields.is_empty() {
+        return print_bad_line(rt);
+    }
+    match read_case(&mut fields[1..]) {
+        Some((sheet, load)) => match check(sheet, load) {
+            Ok(pages) => println!(rt; "pages {pages}"),
+            Err(refusal) => println!(rt; "{refusal}"),
+        },
+        None => print_bad_line(rt),
     }
 }
 

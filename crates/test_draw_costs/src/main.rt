@@ -3,53 +3,45 @@
 // bytes. Of another input nothing is printed.
 #![tactic(auto)]
 
-ghost use Rattle.std.specs.Prelude.{◌≤◌};
-
 use film_draw::draw;
 use film_drawing::Drawn;
-use film_words::word;
 use reading::read_full;
 use std::io;
 
-// The number of four words from place p on.
-fn number(input: &[u8], p: usize) -> usize
-    requires { p ≤ 12 }
-{
-    let a = word(input, p) as usize;
-    let b = word(input, p + 1) as usize;
-    let c = word(input, p + 2) as usize;
-    let d = word(input, p + 3) as usize;
-    a * 281474976710656 + b * 4294967296 + c * 65536 + d
+// The number of the first eight bytes, and what stands behind them.
+fn split_number(input: &[u8]) -> Option<(usize, &[u8])> {
+    let (number, rest) = input.split_first_chunk::<8>()?;
+    Some((usize::from_be_bytes(*number), rest))
 }
 
-fn print_pair(rt: &impl Print, name: &[u8], first: usize, second: usize) -> io::Result<()> {
-    rt.write_all(name)?;
-    println!(rt; "{first} {second}")
+// A band to draw.
+#[derive(Clone, Copy)]
+struct Case<'a> {
+    sheet: &'a [u8],
+    load: &'a [u8],
+    page: usize,
+    band: usize,
 }
 
-fn run(rt: &impl Print, input: &[u8], buffer: &mut [u8]) -> io::Result<()> {
-    let sheet_bytes = number(input, 0);
-    let load_bytes = number(input, 4);
-    if sheet_bytes > 131072 {
-        return Ok(());
-    }
-    if load_bytes > 131072 {
-        return Ok(());
-    }
-    let from = 32 + sheet_bytes;
-    let end = from + load_bytes;
-    if end > input.len() {
-        return Ok(());
-    }
-    match draw(
-        &input[32..from],
-        &input[from..end],
-        number(input, 8),
-        number(input, 12),
-        buffer,
-    ) {
-        Drawn::Done(rows, dots) => print_pair(rt, b"drawn ", rows, dots),
-        Drawn::Refused(r) => print_pair(rt, b"refused ", r.number as usize, r.place),
+fn read_case(input: &[u8]) -> Option<Case<'_>> {
+    let (sheet_bytes, rest) = split_number(input)?;
+    let (load_bytes, rest) = split_number(rest)?;
+    let (page, rest) = split_number(rest)?;
+    let (band, rest) = split_number(rest)?;
+    let (sheet, rest) = rest.split_at_checked(sheet_bytes)?;
+    let load = rest.get(..load_bytes)?;
+    Some(Case {
+        sheet,
+        load,
+        page,
+        band,
+    })
+}
+
+fn run(rt: &impl Print, case: Case, buffer: &mut [u8]) -> io::Result<()> {
+    match draw(case.sheet, case.load, case.page, case.band, buffer) {
+        Ok(Drawn { rows, dots }) => println!(rt; "drawn {rows} {dots}"),
+        Err(refusal) => println!(rt; "refused {} {}", u8::from(refusal.fault), refusal.place),
     }
 }
 
@@ -57,5 +49,8 @@ fn main(rt: HostRuntime) -> io::Result<()> {
     let mut input = [0u8; 131072];
     let mut buffer = [0u8; 65536];
     let n = read_full(&mut rt.stdin(), &mut input)?;
-    run(&rt, &input[..n], &mut buffer)
+    match read_case(&input[..n]) {
+        Some(case) => run(&rt, case, &mut buffer),
+        None => Ok(()),
+    }
 }

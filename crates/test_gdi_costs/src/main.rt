@@ -3,42 +3,38 @@
 // written into an output of as many bytes as a third word says. The input has at most 131,072 bytes. Of another one nothing is printed.
 #![tactic(auto)]
 
-use film_words::word;
-use gdi_check::{Checked, check_job};
+use gdi_check::check_job;
 use gdi_read::{LineRead, read_line};
 use gdi_rows::write_row;
-use gdi_write::Written;
 use reading::read_full;
+use refusal::Refusal;
 use std::io;
 
-fn print_pair(rt: &impl Print, name: &[u8], first: usize, second: usize) -> io::Result<()> {
-    rt.write_all(name)?;
-    println!(rt; "{first} {second}")
+fn print_refusal(rt: &impl Print, refusal: Refusal) -> io::Result<()> {
+    println!(rt; "refused {} {}", u8::from(refusal.fault), refusal.place)
 }
 
 fn check(rt: &impl Print, job: &[u8]) -> io::Result<()> {
     match check_job(job) {
-        Checked::Pages(n) => print_pair(rt, b"pages ", n, 0),
-        Checked::Refused(number, place) => print_pair(rt, b"refused ", number as usize, place),
+        Ok(pages) => println!(rt; "pages {pages} 0"),
+        Err(refusal) => print_refusal(rt, refusal),
     }
 }
 
 // Reads lines one after another from the beginning of the bytes on, as many as there are bytes at the most.
 fn read_lines(rt: &impl Print, bytes: &[u8], width: usize, row: &mut [u8]) -> io::Result<()> {
-    let mut offset = 0;
-    let mut left = 0;
+    let mut at = 0;
+    let mut rest = 0;
     for lines in 0..bytes.len() {
-        match read_line(bytes, offset, left, width, row) {
-            LineRead::Line(next, rest) => {
-                offset = next;
-                left = rest;
+        match read_line(bytes, at, rest, width, row) {
+            Ok(LineRead::Line { offset, left }) => {
+                at = offset;
+                rest = left;
             }
-            LineRead::PageEnd(next, _) => {
-                return print_pair(rt, b"page end ", next, lines);
+            Ok(LineRead::PageEnd { offset, .. }) => {
+                return println!(rt; "page end {offset} {lines}");
             }
-            LineRead::Refused(number, place) => {
-                return print_pair(rt, b"refused ", number as usize, place);
-            }
+            Err(refusal) => return print_refusal(rt, refusal),
         }
     }
     Ok(())
@@ -46,33 +42,35 @@ fn read_lines(rt: &impl Print, bytes: &[u8], width: usize, row: &mut [u8]) -> io
 
 fn write(rt: &impl Print, width: usize, row: &[u8], output: &mut [u8]) -> io::Result<()> {
     match write_row(width, row, output) {
-        Written::Bytes(n) => print_pair(rt, b"written ", n, 0),
-        Written::Refused(number, place) => print_pair(rt, b"refused ", number as usize, place),
+        Ok(n) => println!(rt; "written {n} 0"),
+        Err(refusal) => print_refusal(rt, refusal),
     }
 }
 
+// The number of a word, high byte first.
+fn number(high: u8, low: u8) -> usize {
+    usize::from(u16::from_be_bytes([high, low]))
+}
+
 fn run(rt: &impl Print, input: &[u8], row: &mut [u8], output: &mut [u8]) -> io::Result<()> {
-    if input.len() < 4 {
-        return Ok(());
-    }
-    let kind = word(input, 0);
-    let width = word(input, 1) as usize;
-    let bytes = (width + 7) / 8;
-    if kind == 1 {
-        check(rt, &input[4..])?;
-    } else if kind == 2 {
-        if bytes <= row.len() {
-            read_lines(rt, &input[4..], width, &mut row[0..bytes])?;
+    match input {
+        [0, 1, _, _, job @ ..] => check(rt, job),
+        [0, 2, high, low, page @ ..] => {
+            let width = number(*high, *low);
+            match row.get_mut(..width.div_ceil(8)) {
+                Some(row) => read_lines(rt, page, width, row),
+                None => Ok(()),
+            }
         }
-    } else if kind == 3 {
-        write(rt, width, &input[4..], output)?;
-    } else if kind == 4 {
-        let room = word(input, 2) as usize;
-        if input.len() >= 6 && room <= output.len() {
-            write(rt, width, &input[6..], &mut output[0..room])?;
+        [0, 3, high, low, row @ ..] => write(rt, number(*high, *low), row, output),
+        [0, 4, high, low, room_high, room_low, row @ ..] => {
+            match output.get_mut(..number(*room_high, *room_low)) {
+                Some(output) => write(rt, number(*high, *low), row, output),
+                None => Ok(()),
+            }
         }
+        _ => Ok(()),
     }
-    Ok(())
 }
 
 fn main(rt: HostRuntime) -> io::Result<()> {

@@ -1,12 +1,8 @@
 // Lists the sheet of crates/test_listing_longest and a word more. The program is that of crates/listing.
 #![tactic(auto)]
 
-use reading::read_full;
 use std::io;
 
 fn main(rt: HostRuntime) -> io::Result<()> {
-    let mut input = [0u8; 65537];
-    let n = read_full(&mut rt.stdin(), &mut input)?;
-    lister::list(&rt, &input[..n])?;
-    Ok(())
+    lister::list_input(&rt, &mut rt.stdin()).map(|_| ())
 }

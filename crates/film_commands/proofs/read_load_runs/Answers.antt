@@ -1,37 +1,34 @@
 -- `film_commands::read_load_runs` meets its contract: the group stands two words after its address, past the load's count. Assumes nothing.
-use mathlib.Core.Path.{refl, sym, ◌∙◌}
-use Prim.Native.Nat.{◌+◌}
-use native.Mathlib.Omega.{arith}
+use Rattle.std.proofs.Common.{arith, refl, ◌∙◌, ◌+◌}
+use Rattle.std.proofs.lemmas.Result.{err_from_is_err_and}
 use Rattle.film_words.specs.Words.{words}
-use Rattle.film_words.proofs.Words.{length-words}
-use Rattle.film_words.proofs.Answers.{words-some, past_none}
 use Rattle.film_commands.specs.Code.{command_of, part_for}
-use Rattle.film_commands.proofs.Commands.{too_few, group-room, load_runs_past, load_runs_there}
-use Rattle.film_commands.proofs.Answers.{refused-at, whole-at}
+use Rattle.film_commands.proofs.Commands.{group-room, load_runs_past, load_runs_there}
+use Rattle.film_commands.proofs.Answers.{refused-at, refused-cut, whole-at, measured, not_measured}
 use Rattle.film_commands.proofs.read_load_runs.Goals as goal
 
-pub returns-then-args-lt3 : goal.returns-then-args-lt3
-returns-then-args-lt3 c = λ s least.
+pub returns-in_err-need : goal.returns-in_err-need
+returns-in_err-need c = λ s least.
     let a = c.args in
-    refused-at a.p 6 _ (too_few _ least 8 (words a.args.now) refl (omega (arith, length-words a.args.now)))
+    let x = err_from_is_err_and c.from_residual.result c.from_residual.ensures.1 in rw (x.1, x.2) (refused-cut a.args.p _ least 8 (words a.args.after.now) refl c.in_err-need.ensures.cut)
 
-pub returns-in_default : goal.returns-in_default
-returns-in_default c = λ s least.
+pub returns-in_err-n : goal.returns-in_err-n
+returns-in_err-n c = λ s least.
     let a = c.args in
-    refused-at a.p 9 _
-    (load_runs_past a.load.now (words a.args.now) least _ c.long.ensures (omega (arith, length-words a.args.now))
-    (past_none _ (sym c.in_default.is ∙ c.group_extent-r.ensures)))
+    let m = not_measured _ _ _ c.group_extent.ensures c.ok_or.ensures.value c.in_err-n.was in
+    let x = err_from_is_err_and c.from_residual-in_err-n.result c.from_residual-in_err-n.ensures.1 in rw (x.1, x.2)
+    (refused-at a.args.p _ (m.1 ∙ c.at.ensures)
+    (load_runs_past a.load.now (words a.args.after.now) least _ c.long.ensures c.in_ok-need.ensures.enough m.0))
 
-pub overflow_add-result : goal.overflow_add-result
-overflow_add-result c =
-    let a = c.args in
-    omega (arith, group-room a.load.now (2 + c.long.result) c.in-Words.n (words-some _ _ (sym c.in-Words.is ∙ c.group_extent-r.ensures)))
+pub overflow_add-runs : goal.overflow_add-runs
+overflow_add-runs c =
+    omega (arith, group-room c.args.load.now (2 + c.long.result) c.in_ok-n.n (measured _ _ _ c.group_extent.ensures c.ok_or.ensures.value c.in_ok-n.was))
 
 pub returns : goal.returns
 unfolding command_of part_for
 returns c = λ s least.
     let a = c.args in
-    whole-at a.p 3 _ _ _ _
-    (load_runs_there a.load.now (words a.args.now) least _ c.long.ensures c.in-Words.n c.word.ensures
-    (omega (arith, length-words a.args.now)) (words-some _ _ (sym c.in-Words.is ∙ c.group_extent-r.ensures)))
+    let m = measured _ _ _ c.group_extent.ensures c.ok_or.ensures.value c.in_ok-n.was in
+    whole-at a.args.p 3 _ _ _ _
+    (load_runs_there a.load.now (words a.args.after.now) least _ c.long.ensures c.in_ok-n.n c.word.ensures c.in_ok-need.ensures.enough m)
     refl

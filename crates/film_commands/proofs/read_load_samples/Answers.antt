@@ -1,46 +1,41 @@
 -- `film_commands::read_load_samples` meets its contract: the array stands two words after its address, past the load's count. Assumes nothing.
-use mathlib.Core.Path.{refl, sym, ◌∙◌}
-use Prim.Native.Nat.{◌+◌}
-use native.Mathlib.Omega.{arith}
+use Rattle.std.proofs.Common.{arith, refl, ◌+◌, inl, inr}
+use Rattle.std.proofs.lemmas.Result.{err_from_is_err_and}
 use Rattle.film_words.specs.Words.{words}
-use Rattle.film_words.proofs.Words.{length-words}
-use Rattle.film_words.proofs.Answers.{words-some, past_none}
 use Rattle.film_commands.specs.Code.{command_of, part_for}
-use Rattle.film_commands.proofs.Commands.{too_few, array_room, load_samples_past, load_samples_there}
-use Rattle.film_commands.proofs.Answers.{refused-at, whole-at}
+use Rattle.film_commands.proofs.Commands.{array_room, load_samples_past, load_samples_there}
+use Rattle.film_commands.proofs.Answers.{refused-at, refused-cut, whole-at, array_ok, array_err}
 use Rattle.film_commands.proofs.read_load_samples.Goals as goal
 
-pub returns-then-args-lt4 : goal.returns-then-args-lt4
-returns-then-args-lt4 c = λ s least.
+pub returns-in_err-need : goal.returns-in_err-need
+returns-in_err-need c = λ s least.
     let a = c.args in
-    refused-at a.p 6 _ (too_few _ least 10 (words a.args.now) refl (omega (arith, length-words a.args.now)))
+    let x = err_from_is_err_and c.from_residual.result c.from_residual.ensures.1 in rw (x.1, x.2) (refused-cut a.args.p _ least 10 (words a.args.after.now) refl c.in_err-need.ensures.cut)
 
-pub returns-in_default : goal.returns-in_default
-returns-in_default c = λ s least.
+pub returns-in_err-n : goal.returns-in_err-n
+returns-in_err-n c = λ s least.
     let a = c.args in
-    refused-at a.p 9 _
-    (load_samples_past a.load.now (words a.args.now) least _ c.long.ensures (omega (arith, length-words a.args.now))
-    (past_none _ (sym c.in_default.is ∙ c.array_extent-r.ensures)))
+    let x = err_from_is_err_and c.from_residual-in_err-n.result c.from_residual-in_err-n.ensures.1 in
+    rw (x.1, x.2)
+    (elim (array_err _ _ _ _ c.whole_array.ensures c.in_err-n.was) [
+      | inl m ↦
+          refused-at a.args.p _ m.1
+          (load_samples_past a.load.now (words a.args.after.now) least _ c.long.ensures c.in_ok-need.ensures.enough m.0)
+      | inr m ↦
+          refused-at a.args.p _ m.1.2
+          (load_samples_there a.load.now (words a.args.after.now) least _ c.long.ensures m.0 refl refl c.in_ok-need.ensures.enough m.1.0 m.1.1)
+    ])
 
-pub returns-then-padding_set : goal.returns-then-padding_set
-returns-then-padding_set c = λ s least.
-    let a = c.args in
-    refused-at a.p 15 _
-    (load_samples_there a.load.now (words a.args.now) least _ c.long.ensures c.in-Words.n refl refl
-    (omega (arith, length-words a.args.now)) (words-some _ _ (sym c.in-Words.is ∙ c.array_extent-r.ensures))
-    (sym c.padding_set.ensures ∙ c.if-padding_set.true))
-
-pub overflow_add-result : goal.overflow_add-result
-overflow_add-result c =
-    let a = c.args in
-    omega (arith, array_room a.load.now (2 + c.long.result) c.in-Words.n (words-some _ _ (sym c.in-Words.is ∙ c.array_extent-r.ensures)))
+pub overflow_add-samples : goal.overflow_add-samples
+overflow_add-samples c =
+    omega (arith, array_room c.args.load.now (2 + c.long.result) c.in_ok-n.n (array_ok _ _ _ _ c.whole_array.ensures c.in_ok-n.was).0)
 
 pub returns : goal.returns
 unfolding command_of part_for
 returns c = λ s least.
     let a = c.args in
-    whole-at a.p 4 _ _ _ _
-    (load_samples_there a.load.now (words a.args.now) least _ c.long.ensures c.in-Words.n c.word.ensures c.word-2.ensures
-    (omega (arith, length-words a.args.now)) (words-some _ _ (sym c.in-Words.is ∙ c.array_extent-r.ensures))
-    (sym c.padding_set.ensures ∙ c.if-padding_set.false))
+    let m = array_ok _ _ _ _ c.whole_array.ensures c.in_ok-n.was in
+    whole-at a.args.p 4 _ _ _ _
+    (load_samples_there a.load.now (words a.args.after.now) least _ c.long.ensures c.in_ok-n.n c.word.ensures c.word-2.ensures
+    c.in_ok-need.ensures.enough m.0 m.1)
     refl

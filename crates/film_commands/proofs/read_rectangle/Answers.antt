@@ -1,23 +1,21 @@
 -- `film_commands::read_rectangle` meets its contract: four words, or too few. Assumes nothing.
-use mathlib.Core.Path.{refl}
-use native.Mathlib.Omega.{arith}
+use Rattle.std.proofs.Common.{refl}
+use Rattle.std.proofs.lemmas.Result.{err_from_is_err_and}
 use Rattle.film_words.specs.Words.{words}
-use Rattle.film_words.proofs.Words.{length-words}
 use Rattle.film_commands.specs.Code.{command_of, part_for}
-use Rattle.film_commands.proofs.Commands.{too_few, rectangle_read}
-use Rattle.film_commands.proofs.Answers.{refused-at, whole-at}
+use Rattle.film_commands.proofs.Commands.{rectangle_read}
+use Rattle.film_commands.proofs.Answers.{refused-cut, whole-at}
 use Rattle.film_commands.proofs.read_rectangle.Goals as goal
 
-pub returns-then-args-lt4 : goal.returns-then-args-lt4
-returns-then-args-lt4 c = λ s l load least.
+pub returns-in_err-need : goal.returns-in_err-need
+returns-in_err-need c = λ s l load least.
     let a = c.args in
-    refused-at a.p 6 _ (too_few load least 5 (words a.args.now) refl (omega (arith, length-words a.args.now)))
+    let x = err_from_is_err_and c.from_residual.result c.from_residual.ensures.1 in rw (x.1, x.2) (refused-cut a.args.p load least 5 (words a.args.after.now) refl c.in_err-need.ensures.cut)
 
 pub returns : goal.returns
 unfolding command_of part_for
 returns c = λ s l load least.
     let a = c.args in
-    whole-at a.p 4 _ _ _ _
-    (rectangle_read load (words a.args.now) least c.word.ensures c.word-2.ensures
-    c.word-3.ensures c.word-4.ensures (omega (arith, length-words a.args.now)))
+    whole-at a.args.p 4 _ _ _ _
+    (rectangle_read load (words a.args.after.now) least c.word.ensures c.word-2.ensures c.word-3.ensures c.word-4.ensures c.in_ok-need.ensures.enough)
     refl

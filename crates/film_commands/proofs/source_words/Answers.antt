@@ -2,10 +2,10 @@
 use Rattle.film_commands.specs.Code.{part_for}
 use Rattle.film_commands.proofs.source_words.Goals as goal
 
-pub returns-then-source : goal.returns-then-source
+pub returns-in-Sheet : goal.returns-in-Sheet
 unfolding part_for
-returns-then-source c = rw c.if-source.true c.part.ensures
+returns-in-Sheet c = rw c.in-Sheet.is c.part.ensures
 
-pub returns-else-source : goal.returns-else-source
+pub returns-in-Load : goal.returns-in-Load
 unfolding part_for
-returns-else-source c = rw c.if-source.false c.part-else-source.ensures
+returns-in-Load c = rw c.in-Load.is c.part-in-Load.ensures

@@ -1,67 +1,52 @@
 -- `film_cursor::advance` meets its contract: the command reader's answers, one by one. Assumes nothing.
-use Prim.Native.Nat.{◌≤◌}
-use native.Mathlib.Omega.{arith}
-use lib.ListN.{length}
+use Rattle.std.proofs.Common.{arith, ℕ, ◌≤◌, ◌/◌, List, length}
+use Rattle.std.proofs.lemmas.Result.{err_from_is_err_and}
 use Rattle.film_words.specs.Words.{words}
 use Rattle.film_words.proofs.Words.{length-words}
 use Rattle.film_words.proofs.Parts.{part_past, part_empty}
-use Rattle.film_cursor.proofs.Cursors.{step_end, step-refused, step_paint, step_priority, step_ink, step_clear, step-tile}
+use Rattle.film_cursor.proofs.Cursors.{step_end, refusing, step_paint, step_priority, step_ink, step_clear, step-tile}
 use Rattle.film_cursor.proofs.advance.Goals as goal
+use Rattle.film_cursor.proofs.advance.Goals.{then-c-end-via-then-c-end, then-c-end-via-else-c-end+then-end-sheet}
 
-room : (r : goal.After-stopped) → r.args.end ≤ length (words r.args.sheet.now)
-room r = omega (arith, length-words r.args.sheet.now)
+room : (sheet : List ℕ) {e : ℕ} → e ≤ length sheet / 2 → e ≤ length (words sheet)
+room sheet h = omega (arith, length-words sheet)
 
-room-2 : (r : goal.In-Paint) → r.args.end ≤ length (words r.args.sheet.now)
-room-2 r = omega (arith, length-words r.args.sheet.now)
-
-room-3 : (r : goal.In-Priority) → r.args.end ≤ length (words r.args.sheet.now)
-room-3 r = omega (arith, length-words r.args.sheet.now)
-
-room-4 : (r : goal.In-Ink) → r.args.end ≤ length (words r.args.sheet.now)
-room-4 r = omega (arith, length-words r.args.sheet.now)
-
-room-5 : (r : goal.In-Clear) → r.args.end ≤ length (words r.args.sheet.now)
-room-5 r = omega (arith, length-words r.args.sheet.now)
-
-room-6 : (r : goal.In-Tile) → r.args.end ≤ length (words r.args.sheet.now)
-room-6 r = omega (arith, length-words r.args.sheet.now)
-
-pub returns-then-at-end : goal.returns-then-at-end
-returns-then-at-end c =
+pub returns-then-c-end : goal.returns-then-c-end
+returns-then-c-end c =
     let a = c.args in
-    step_end _ _ _ _ (part_empty a.sheet.now a.c.at a.end (omega arith))
+    step_end _ _ _ _
+    (elim c.then-c-end.branch [
+      | then-c-end-via-then-c-end w ↦ part_empty a.sheet.now a.c.at a.end w.if-c-end.true
+      | then-c-end-via-else-c-end+then-end-sheet w ↦ part_past a.sheet.now _ _ (omega (arith, w.if-end-sheet.true, length-words a.sheet.now))
+    ])
 
-pub returns-then-end-sheet : goal.returns-then-end-sheet
-returns-then-end-sheet c =
-    let a = c.args in
-    step_end _ _ _ _ (part_past a.sheet.now _ _ (omega (arith, length-words a.sheet.now)))
-
-pub returns-in_default : goal.returns-in_default
-returns-in_default c =
-    step-refused c.args.sheet.now _ _ _ c.if-at-end.false (room c) _ c.read_command-r.ensures
-    _ _ c.in_default.is c.stopped.ensures
+pub returns-in_err-command : goal.returns-in_err-command
+returns-in_err-command c =
+    let s = c.args.sheet.now in
+    let x = err_from_is_err_and c.from_residual.result c.from_residual.ensures.1 in
+    rw (x.1, x.2) (refusing s _ _ _ c.if-c-end.false (room s c.if-end-sheet.false) _ c.read_command.ensures _ c.in_err-command.was)
 
 pub returns-in-Paint : goal.returns-in-Paint
 returns-in-Paint c =
-    step_paint c.args.sheet.now _ _ _ c.if-at-end.false (room-2 c) _ c.read_command-r.ensures
-    _ _ c.in-Whole.is _ c.in-Paint.is
+    let s = c.args.sheet.now in
+    step_paint s _ _ _ c.if-c-end.false (room s c.if-end-sheet.false) _ c.read_command.ensures _ _ c.in_ok-command.was _ c.in-Paint.is
 
 pub returns-in-Priority : goal.returns-in-Priority
 returns-in-Priority c =
-    step_priority c.args.sheet.now _ _ _ c.if-at-end.false (room-3 c) _ c.read_command-r.ensures
-    _ _ c.in-Whole.is _ c.in-Priority.is
+    let s = c.args.sheet.now in
+    step_priority s _ _ _ c.if-c-end.false (room s c.if-end-sheet.false) _ c.read_command.ensures _ _ c.in_ok-command.was _ c.in-Priority.is
 
 pub returns-in-Ink : goal.returns-in-Ink
 returns-in-Ink c =
-    step_ink c.args.sheet.now _ _ _ c.if-at-end.false (room-4 c) _ c.read_command-r.ensures
-    _ _ c.in-Whole.is c.in-Ink.is
+    let s = c.args.sheet.now in
+    step_ink s _ _ _ c.if-c-end.false (room s c.if-end-sheet.false) _ c.read_command.ensures _ _ c.in_ok-command.was c.in-Ink.is
 
 pub returns-in-Clear : goal.returns-in-Clear
 returns-in-Clear c =
-    step_clear c.args.sheet.now _ _ _ c.if-at-end.false (room-5 c) _ c.read_command-r.ensures
-    _ _ c.in-Whole.is c.in-Clear.is
+    let s = c.args.sheet.now in
+    step_clear s _ _ _ c.if-c-end.false (room s c.if-end-sheet.false) _ c.read_command.ensures _ _ c.in_ok-command.was c.in-Clear.is
 
 pub returns-in-Tile : goal.returns-in-Tile
 returns-in-Tile c =
-    step-tile c.args.sheet.now _ _ _ c.if-at-end.false (room-6 c) _ c.read_command-r.ensures
-    _ _ c.in-Whole.is _ _ _ c.in-Tile.is
+    let s = c.args.sheet.now in
+    step-tile s _ _ _ c.if-c-end.false (room s c.if-end-sheet.false) _ c.read_command.ensures _ _ c.in_ok-command.was _ c.in-Tile.is

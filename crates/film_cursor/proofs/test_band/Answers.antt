@@ -1,32 +1,35 @@
 -- `film_cursor::test_band` meets its contract. The loop's invariant: the band ends as what is ahead of the cursor ends. Assumes nothing.
-use native.Mathlib.Omega.{arith}
+use Rattle.std.proofs.Common.{arith, ap, ◌∙◌, Ok, Some}
+use Rattle.std.proofs.lemmas.Result.{err_from_is_err_and}
 use Rattle.film_cursor.specs.declared.Step.TheVariants.{Paint, Other}
 use Rattle.film_cursor.proofs.Cursors.{test_start, met, test_paint, test_other, test_fine, test_refused}
 use Rattle.film_cursor.proofs.test_band.Goals as goal
 
-pub loop-at-init : goal.loop-at-init
-loop-at-init c = test_start _ _ _ _ _ c.start-c.ensures
+pub loop-step-init : goal.loop-step-init
+loop-step-init c = test_start _ _ _ _ _ c.start-c.ensures
 
-pub loop-at-smaller-in-Paint : goal.loop-at-smaller-in-Paint
-loop-at-smaller-in-Paint c =
-    omega (arith, (met (Paint _ _) c.advance.ensures c.in-Paint.is).1)
+pub returns : goal.returns
+returns c = test_fine c.loop-step.invariant c.advance.ensures (c.in_ok-step.was ∙ ap (λ s. Ok s) c.in_default.is)
 
-pub loop-at-preserved-in-Paint : goal.loop-at-preserved-in-Paint
-loop-at-preserved-in-Paint c =
-    test_paint c.loop-at.invariant c.advance.ensures _ _ c.in-Paint.is
+pub returns-in_err-step : goal.returns-in_err-step
+returns-in_err-step c =
+    let x = err_from_is_err_and c.from_residual.result c.from_residual.ensures.1 in
+    rw (x.1, x.2) (test_refused c.loop-step.invariant c.advance.ensures _ c.in_err-step.was)
 
-pub loop-at-smaller : goal.loop-at-smaller
-loop-at-smaller c =
-    omega (arith, (met (Other _) c.advance.ensures c.in-Other.is).1)
+pub loop-step-preserved-in-Paint : goal.loop-step-preserved-in-Paint
+loop-step-preserved-in-Paint c =
+    test_paint c.loop-step.invariant c.advance.ensures _ _ (c.in_ok-step.was ∙ ap (λ s. Ok s) (c.in-Some.is ∙ ap (λ s. Some s) c.in-Paint.is))
 
-pub loop-at-preserved : goal.loop-at-preserved
-loop-at-preserved c =
-    test_other c.loop-at.invariant c.advance.ensures _ c.in-Other.is
+pub loop-step-smaller-in-Paint : goal.loop-step-smaller-in-Paint
+loop-step-smaller-in-Paint c =
+    let on = met (Ok (Some (Paint _ _))) c.advance.ensures (c.in_ok-step.was ∙ ap (λ s. Ok s) (c.in-Some.is ∙ ap (λ s. Some s) c.in-Paint.is)) in
+    omega (arith, on.1)
 
-pub returns-in-End : goal.returns-in-End
-returns-in-End c =
-    test_fine c.loop-at.invariant c.advance.ensures c.in-End.is
+pub loop-step-preserved : goal.loop-step-preserved
+loop-step-preserved c =
+    test_other c.loop-step.invariant c.advance.ensures _ (c.in_ok-step.was ∙ ap (λ s. Ok s) (c.in-Some.is ∙ ap (λ s. Some s) c.in-Other.is))
 
-pub returns-in-Refused : goal.returns-in-Refused
-returns-in-Refused c =
-    test_refused c.loop-at.invariant c.advance.ensures _ c.in-Refused.is
+pub loop-step-smaller : goal.loop-step-smaller
+loop-step-smaller c =
+    let on = met (Ok (Some (Other _))) c.advance.ensures (c.in_ok-step.was ∙ ap (λ s. Ok s) (c.in-Some.is ∙ ap (λ s. Some s) c.in-Other.is)) in
+    omega (arith, on.1)

@@ -3,8 +3,8 @@ use Prim.Native.Nat.{◌-◌}
 use Rattle.film_cursor.proofs.Cursors.{TestedTo}
 use Rattle.film_cursor.proofs.test_band.Given as goal
 
-abbrev pub invariant-loop-at : goal.invariant-loop-at
-invariant-loop-at l = TestedTo l.sheet l.load l.from l.end l.c
+abbrev pub invariant-loop-step : goal.invariant-loop-step
+invariant-loop-step l = TestedTo l.sheet l.load l.from l.end l.c
 
-abbrev pub decreases-loop-at : goal.decreases-loop-at
-decreases-loop-at l = l.end - l.c.at
+abbrev pub decreases-loop-step : goal.decreases-loop-step
+decreases-loop-step l = l.end - l.c.at

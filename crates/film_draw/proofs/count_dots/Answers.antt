@@ -1,36 +1,32 @@
--- `film_draw::count_dots` meets its contract. The loop's invariant: the dots of the first i rows are counted. The measure is the number of rows left.
--- Assumes nothing.
+-- `film_draw::count_dots` meets its contract. Assumes nothing.
+use mathlib.Core.Path.{refl, ◌∙◌}
 use Prim.Native.Nat.{◌+◌, ◌*◌, ◌≤◌}
-use native.Mathlib.Nat.{add-sub_cancel_left}
 use native.Mathlib.Omega.{arith}
-use Rattle.film_draw.proofs.Counting.{Counted, counted_none, counted_row, counted_fits, counted_all}
+use Rattle.std.proofs.Common.{rules}
+use Rattle.row.specs.Counts.{ones_of}
+use Rattle.row.proofs.Counts.{ones-le}
+use Rattle.film_draw.proofs.Counting.{Counted, counted_row, counted_all}
 use Rattle.film_draw.proofs.count_dots.Goals as goal
 
-pub each_row-init : goal.each_row-init
-each_row-init c = (omega arith, counted_none)
+pub loop-row-init : goal.loop-row-init
+loop-row-init c =
+    rw (c.into_iter-row-iterator.ensures.into_iter_gives, c.chunks_exact-row-items.ensures.size, c.chunks_exact-row-items.ensures.rest)
+    (refl, record { sum = omega arith; cut = c.requires.2 })
 
-pub overflow_add-at : goal.overflow_add-at
-overflow_add-at c = omega (arith, counted_fits c.each_row.invariant.1 (omega arith) c.requires.1)
-
-pub slice_bounds-ones-end : goal.slice_bounds-ones-end
-slice_bounds-ones-end c = omega (arith, counted_fits c.each_row.invariant.1 (omega arith) c.requires.0)
+-- the row is counted
+counted : (c : goal.After-ones-dots) → (c.loop-row.dots + c.ones-dots.result ≤ 8 * 65536)
+    × Counted (ones_of c.args.rows.now) c.args.row_bytes (c.loop-row.dots + c.ones-dots.result) c.next.new.self.rest.now
+counted c =
+    let rows = c.args.rows.now in
+    let cut = c.in-Some.ensures.steps.1 in
+    counted_row c.in-Some.row.now c.loop-row.invariant.1 (omega (arith, ones-le rows (λ i. search rules), c.requires.0)) cut.0
+    (cut.1 ∙ c.loop-row.invariant.0) c.ones-dots.ensures
 
 pub overflow_add-dots : goal.overflow_add-dots
-overflow_add-dots c =
-    let counted : (let a = c.args in
-    (c.each_row.dots + c.ones-dots.result ≤ 8 * 65536) × Counted a.buf.now a.row_bytes (c.each_row.dots + c.ones-dots.result) (c.each_row.i + 1) (c.each_row.at + a.row_bytes)) = counted_row _ _ c.each_row.invariant.1 (λ i. (c.type_inv.buf i).fits)
-    (counted_fits c.each_row.invariant.1 (omega arith) c.requires.1) (add-sub_cancel_left c.each_row.at c.args.row_bytes) c.ones-dots.ensures in
-    omega (arith, counted.0)
+overflow_add-dots c = omega (arith, (counted c).0)
 
-pub overflow_add-at-in-each_row : goal.overflow_add-at-in-each_row
-overflow_add-at-in-each_row c = omega (arith, counted_fits c.each_row.invariant.1 (omega arith) c.requires.1)
-
-pub each_row-preserved : goal.each_row-preserved
-each_row-preserved c =
-    let counted : (let a = c.args in
-    (c.each_row.dots + c.ones-dots.result ≤ 8 * 65536) × Counted a.buf.now a.row_bytes (c.each_row.dots + c.ones-dots.result) (c.each_row.i + 1) (c.each_row.at + a.row_bytes)) = counted_row _ _ c.each_row.invariant.1 (λ i. (c.type_inv.buf i).fits)
-    (counted_fits c.each_row.invariant.1 (omega arith) c.requires.1) (add-sub_cancel_left c.each_row.at c.args.row_bytes) c.ones-dots.ensures in
-    (omega arith, counted.1)
+pub loop-row-preserved : goal.loop-row-preserved
+loop-row-preserved c = (c.in-Some.ensures.steps.0 ∙ c.loop-row.invariant.0, (counted c).1)
 
 pub returns : goal.returns
-returns c = counted_all c.each_row.invariant.1 (omega arith)
+returns c = let over = c.in-None.ensures.steps.1 in counted_all c.loop-row.invariant.1 (omega (arith, over.0, c.loop-row.invariant.0))

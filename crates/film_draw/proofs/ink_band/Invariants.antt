@@ -4,8 +4,8 @@ use Prim.Native.Nat.{◌-◌}
 use Rattle.film_draw.proofs.Inking.{Inked}
 use Rattle.film_draw.proofs.ink_band.Given as goal
 
-abbrev pub invariant-loop-m : goal.invariant-loop-m
-invariant-loop-m l = Inked l.frame l.sheet l.load l.from l.end l.initial.buf l.buf l.c
+abbrev pub invariant-loop-step : goal.invariant-loop-step
+invariant-loop-step l = Inked l.frame l.sheet l.load l.from l.end l.initial.buf l.buf l.c
 
-abbrev pub decreases-loop-m : goal.decreases-loop-m
-decreases-loop-m l = l.end - l.c.at
+abbrev pub decreases-loop-step : goal.decreases-loop-step
+decreases-loop-step l = l.end - l.c.at

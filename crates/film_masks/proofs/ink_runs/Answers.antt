@@ -8,7 +8,7 @@ use borrow.Author.Tests.{ltb-true, leb-true, ltb-false, leb-false}
 use lib.Dec.{leb, ltb, eqb}
 use Rattle.film_words.specs.Words.{words, at}
 use Rattle.film_words.proofs.Words.{length-words}
-use Rattle.film_commands.specs.Code.{colour_with}
+use Rattle.film_paint.specs.Inks.{colour_in}
 use Rattle.film_masks.specs.Bands.{painted_frame}
 use Rattle.film_masks.proofs.Runs.{walked-first, run_above, walked_last, walked_next, walked-done, walked_short, walked_below, walked-length}
 use Rattle.film_masks.proofs.ink_runs.Goals as goal
@@ -17,20 +17,12 @@ use Rattle.film_masks.proofs.ink_runs.Goals.{then-s-top, else-s-top}
 pub loop-lines-init : goal.loop-lines-init
 loop-lines-init c = (omega arith, walked-first c.word-lines.ensures (λ i. (c.type_inv.buf i).fits))
 
-pub stretch_in_row-requires : goal.stretch_in_row-requires
-stretch_in_row-requires c = (
-  omega (arith, c.requires, walked-length c.loop-lines.invariant.1),
-  c.row_bytes-n.ensures,
-  omega arith,
-  omega (arith, ltb-true),
-)
-
 -- the run is painted, where the band has its line and where not
 inked : (c : goal.Then-w-ge32768)
     → let a = c.args in
     let f = at (words a.group.now) c.loop-lines.q in
     c.if-s-top.buf
-    ≡ painted_frame a.frame (colour_with a.colour (words a.tile.now)) (λ t g. eqb t c.loop-lines.s && (leb f g && ltb g (f + c.word-w.result % 32768)))
+    ≡ painted_frame a.frame (colour_in a.ink) (λ t g. eqb t c.loop-lines.s && (leb f g && ltb g (f + c.word-w.result % 32768)))
     c.loop-lines.buf
 inked c =
     elim c.if-s-top.branch [
@@ -43,7 +35,7 @@ inked-2 : (c : goal.Else-w-ge32768)
     → let a = c.args in
     let f = at (words a.group.now) c.loop-lines.q in
     c.if-s-top.buf
-    ≡ painted_frame a.frame (colour_with a.colour (words a.tile.now)) (λ t g. eqb t c.loop-lines.s && (leb f g && ltb g (f + c.word-w.result % 32768)))
+    ≡ painted_frame a.frame (colour_in a.ink) (λ t g. eqb t c.loop-lines.s && (leb f g && ltb g (f + c.word-w.result % 32768)))
     c.loop-lines.buf
 inked-2 c =
     elim c.if-s-top.branch [

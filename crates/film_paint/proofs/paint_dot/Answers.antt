@@ -1,27 +1,20 @@
--- `film_paint::paint_dot` meets its contract: what it writes on the mask is the painted dot, and elsewhere the row stays. Assumes nothing.
-use mathlib.Core.Path.{sym}
-use Rattle.row.proofs.Dots.{length_is}
-use Rattle.film_paint.proofs.Painting.{painted_off, solid_dot, dot_written, dot_kept, dot_tiled}
+-- `film_paint::paint_dot` meets its contract: what it writes is the painted dot, and where a transparent tile is 0 the row stays. Assumes nothing.
+use Rattle.film_paint.proofs.Painting.{solid_dot, ink_dot, opaque_dot, keep_dot, dot_written, dot_kept}
 use Rattle.film_paint.proofs.paint_dot.Goals as goal
-
-pub shape_of-row-in-Solid : goal.shape_of-row-in-Solid
-shape_of-row-in-Solid c = length_is _ _ _ c.set_dot.ensures
+use Rattle.film_paint.proofs.paint_dot.Goals.{then-c-via-then-c, then-c-via-else-c+then-not-transparent}
 
 pub returns-in-Solid : goal.returns-in-Solid
-returns-in-Solid c =
-    let a = c.args in
-    dot_written a.row.now _ a.j _ _ c.set_dot.ensures
-    (solid_dot _ _ _ _ _ _ _ c.if-m.true c.in-Solid.is)
+returns-in-Solid c = dot_written _ _ _ _ _ c.set_dot.ensures (solid_dot _ _ _ _ _ c.in-Solid.is)
 
-pub shape_of-row-in-Tile : goal.shape_of-row-in-Tile
-shape_of-row-in-Tile c = length_is _ _ _ c.paint_tile.ensures
+pub returns-then-c : goal.returns-then-c
+returns-then-c c =
+    elim c.then-c.branch [
+      | then-c-via-then-c w ↦ dot_written _ _ _ _ _ c.set_dot-then-c.ensures (ink_dot _ _ _ _ _ _ _ c.in-Tile.is c.tile_dot-c.ensures w.if-c.true)
+      | then-c-via-else-c+then-not-transparent w ↦
+          dot_written _ _ _ _ _ c.set_dot-then-c.ensures (opaque_dot _ _ _ _ _ _ _ c.in-Tile.is c.tile_dot-c.ensures w.if-not-transparent.true)
+    ]
 
-pub returns-in-Tile : goal.returns-in-Tile
-returns-in-Tile c =
-    let a = c.args in
-    dot_tiled a.row.now _ a.j _ _ _ _ _ _ _ _ c.if-m.true c.in-Tile.is c.paint_tile.ensures
-
-pub returns-else-m : goal.returns-else-m
-returns-else-m c =
-    let a = c.args in
-    dot_kept a.row.now a.j _ (λ j. (c.type_inv.row j).fits) (rw c.if-m.false (sym (painted_off _ _ _ _)))
+pub returns-else-not-transparent : goal.returns-else-not-transparent
+returns-else-not-transparent c =
+    dot_kept c.args.row.now c.args.j _ (λ j. (c.type_inv.row j).fits)
+    (keep_dot _ _ _ _ _ _ _ c.in-Tile.is c.tile_dot-c.ensures c.if-not-transparent.false c.if-c.false)

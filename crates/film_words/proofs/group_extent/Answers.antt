@@ -1,18 +1,12 @@
 -- `film_words::group_extent` meets its contract. The loop's invariant: the group takes the words up to q, and then those of the lines to come.
 -- The measure is the number of words left. Assumes nothing.
-use mathlib.Core.Path.{sym, ap, subst}
+use mathlib.Core.Path.{sym, subst}
 use Prim.Native.Nat.{◌+◌}
 use native.Mathlib.Omega.{arith}
 use Rattle.film_words.specs.Words.{words}
-use Rattle.film_words.specs.Answers.{extent_of}
 use Rattle.film_words.proofs.Words.{length-words}
-use Rattle.film_words.proofs.Groups.{group-past, Walked, walked-first, walked_last, walked_next, walked_none, walked-done}
+use Rattle.film_words.proofs.Groups.{Walked, walked-first, walked_last, walked_next}
 use Rattle.film_words.proofs.group_extent.Goals as goal
-
-pub returns-then-p-end : goal.returns-then-p-end
-returns-then-p-end c =
-    let a = c.args in
-    sym (ap extent_of (group-past (words a.file.now) a.p (omega (arith, length-words a.file.now))))
 
 pub loop-lines-init : goal.loop-lines-init
 loop-lines-init c =
@@ -23,12 +17,6 @@ loop-lines-init c =
       omega arith,
       subst (Walked ws a.p (a.p + 1)) (sym c.word-lines.ensures) (walked-first ws a.p (omega (arith, length-words a.file.now))),
     )
-
-pub returns-then-end-q-lt2 : goal.returns-then-end-q-lt2
-returns-then-end-q-lt2 c =
-    let a = c.args in
-    let l = c.loop-lines in
-    sym (ap extent_of (walked_none (words a.file.now) a.p l.q l.lines (omega arith) (omega arith) l.invariant.3))
 
 pub loop-lines-preserved-then-w-ge32768 : goal.loop-lines-preserved-then-w-ge32768
 loop-lines-preserved-then-w-ge32768 c =
@@ -47,9 +35,3 @@ loop-lines-preserved c =
       omega arith,
       walked_next (words a.file.now) a.p c.loop-lines.q c.loop-lines.lines (omega arith) (omega arith) (omega arith) (omega arith) c.loop-lines.invariant.3,
     )
-
-pub returns : goal.returns
-returns c =
-    let a = c.args in
-    let l = c.loop-lines in
-    sym (ap extent_of (walked-done (words a.file.now) a.p l.q l.lines (omega arith) l.invariant.3))

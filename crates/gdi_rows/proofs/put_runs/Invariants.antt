@@ -5,7 +5,7 @@ use Rattle.gdi_rows.proofs.Rows.{Walked}
 use Rattle.gdi_rows.proofs.put_runs.Given as goal
 
 abbrev pub invariant-loop-from : goal.invariant-loop-from
-invariant-loop-from l = Walked l.width l.row l.initial.output l.from l.block.head l.block.size l.output
+invariant-loop-from l = Walked l.width.dots l.row l.initial.output l.from l.block.head l.block.size l.output
 
 abbrev pub decreases-loop-from : goal.decreases-loop-from
-decreases-loop-from l = l.width - l.from
+decreases-loop-from l = l.width.dots - l.from

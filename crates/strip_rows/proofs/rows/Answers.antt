@@ -7,7 +7,7 @@ use Rattle.strip_rows.proofs.Laws.{begins, in_bands, pair_goes_on, ends}
 use Rattle.strip_rows.proofs.rows.Goals as goal
 
 pub loop-i-init : goal.loop-i-init
-loop-i-init c = (omega arith, refl, begins _ _)
+loop-i-init c = (refl, begins _ _)
 
 -- both bytes of the tile are in the bands
 in_reach : (c : goal.After-shared_slice_known-in-loop-i-1-unread) → c.tile_byte-at.result + 1 < length c.args.bands.now
@@ -36,14 +36,13 @@ loop-i-preserved c =
     let o = c.loop-i in
     let g = c.table_of-table in
     let at = c.tile_byte-at.result in (
-      omega arith,
-      simp length-set o.invariant.1,
+      simp length-set o.invariant.0,
       pair_goes_on _ _ _ _ _ _ at _ _ c.tile_byte-at.ensures g.ensures (omega (arith, c.type_inv.bands at)) (omega (arith, c.type_inv.bands (at + 1)))
-          c.entry.ensures c.entry-in-loop-i.ensures (omega arith) o.invariant.2,
+          c.entry.ensures c.entry-in-loop-i.ensures (omega arith) o.invariant.1,
     )
 
 pub shape_of-dots : goal.shape_of-dots
-shape_of-dots c = c.loop-i.invariant.1
+shape_of-dots c = c.loop-i.invariant.0
 
 pub returns : goal.returns
-returns c = ends _ _ _ _ _ _ c.loop-i.invariant.2 (omega arith)
+returns c = ends _ _ _ _ _ _ c.loop-i.invariant.1 (omega arith)

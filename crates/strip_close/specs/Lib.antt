@@ -1,0 +1,2 @@
+-- A call that 36 does not refuse: Usable.
+pub mod Usable
