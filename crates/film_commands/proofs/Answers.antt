@@ -1,6 +1,6 @@
 -- Laws of the code's answers: what was read, at its place. Assumes nothing.
 use Rattle.std.proofs.Common as code
-use Rattle.std.proofs.Common.{◌≡◌, refl, sym, ap, ◌∙◌, Bool, true, false, cond, Result, Ok, Err, ok_or, List, ℕ, suc, ◌+◌, ◌<◌, ◌||◌, ltb, eqb, length, ◌⊎◌, inl, inr}
+use Rattle.std.proofs.Common.{◌≡◌, refl, sym, ap, ◌∙◌, Bool, true, false, cond, Result, Ok, Err, Some, None, ok_or, List, ℕ, suc, ◌+◌, ◌<◌, ◌||◌, ltb, eqb, length, ◌⊎◌, inl, inr}
 use Rattle.std.proofs.Math.Option.{Option, none, some}
 use native.Mathlib.Nat.{add-zero}
 use Rattle.refusal.specs.Answers.{given, refused}
@@ -10,6 +10,7 @@ use Rattle.refusal.specs.declared.Refusal.{Refusal}
 use Rattle.refusal.specs.declared.Fault.{Fault}
 use Rattle.refusal.specs.declared.Fault.TheVariants as fault
 use Rattle.film_words.specs.Answers.{extent_of}
+use Rattle.film_words.proofs.Answers.{words-some, past_none}
 use Rattle.film_commands.specs.Refusals.{argument_words}
 use Rattle.film_commands.specs.Commands.{Command, ink, clear, Source, nowhere, Taken, taken, command}
 use Rattle.film_commands.specs.Code.{nothing, whole_at, located, placed, array_answer}
@@ -49,20 +50,20 @@ given_same e = cc
 
 -- it is there
 pub measured : {x : Result ℕ Refusal} (o : Option ℕ) (g : code.Option ℕ) (e : Refusal) {n : ℕ} → g ≡ extent_of o → x ≡ ok_or g e → x ≡ Ok n → o ≡ some n
-measured o g e {n} q v w = go o (ap (λ k. ok_or k e) (sym q) ∙ sym v ∙ w)
+measured o g e {n} q v w = words-some o n (go g (sym v ∙ w) ∙ q)
   where
-    go : (o : Option ℕ) → ok_or (extent_of o) e ≡ Ok n → o ≡ some n
-    go none z = cc
-    go (some m) z = cc
+    go : (g : code.Option ℕ) → ok_or g e ≡ Ok n → Some n ≡ g
+    go None z = cc
+    go (Some m) z = cc
 
 -- it runs past the end
 pub not_measured : {x : Result ℕ Refusal} (o : Option ℕ) (g : code.Option ℕ) (e : Refusal) {r : Refusal} → g ≡ extent_of o → x ≡ ok_or g e → x ≡ Err r
     → (o ≡ none) × (r ≡ e)
-not_measured o g e {r} q v w = go o (ap (λ k. ok_or k e) (sym q) ∙ sym v ∙ w)
+not_measured o g e {r} q v w = let z = go g (sym v ∙ w) in (past_none o (z.0 ∙ q), z.1)
   where
-    go : (o : Option ℕ) → ok_or (extent_of o) e ≡ Err r → (o ≡ none) × (r ≡ e)
-    go none z = (refl, cc)
-    go (some m) z = cc
+    go : (g : code.Option ℕ) → ok_or g e ≡ Err r → (None ≡ g) × (r ≡ e)
+    go None z = (refl, cc)
+    go (Some m) z = cc
 
 -- an array is there, and no bit is set in its padding
 pub array_ok : {x : Result ℕ Refusal} (f : Fault) (p : ℕ) (o : Option ℕ) (t : Bool) {n : ℕ} → x ≡ array_answer f p o t → x ≡ Ok n → (o ≡ some n) × (t ≡ false)

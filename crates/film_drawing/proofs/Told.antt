@@ -1,4 +1,4 @@
--- Whatever a draw's answer is, its number is that of a fault: each table's lines, and the refusals on the way to a band. Assumes nothing.
+-- Whatever the answer of a check or a draw is, a refusal's number is that of a fault: each table's lines, and the refusals on the way to a band. Assumes nothing.
 use mathlib.Core.Path.{◌≡◌, refl}
 use mathlib.Core.Bool.{Bool, true, false, cond}
 use mathlib.Core.List.{List, [], ◌∷◌, ◌++◌, map}
@@ -17,7 +17,8 @@ use Rattle.film_commands.specs.Refusals.{command_table}
 use Rattle.film_commands.specs.Commands.{Taken, command, decoded}
 use Rattle.film_commands.specs.Band.{priority_after, then_read, read_from, read_band, band_test}
 use Rattle.film_herald.specs.Herald.{Herald, herald_of, page_count, band_count, band_start, band_rows, whole_film}
-use Rattle.film_herald.specs.Refusals.{length_table, password_table, size_table, load_table, page_table, herald_table}
+use Rattle.film_herald.specs.Refusals.{length_table, password_table, size_table, load_table, page_table, herald_table, herald_test}
+use Rattle.film_check.specs.Check.{nothing_after, check_layout, check_answer}
 use Rattle.film_layout.specs.Layout.{Span, span, Layout, page_head, band, ends, bands_then, pages_from, layout_of, Page, reach_page, reach}
 use Rattle.film_imaging.specs.Pictures.{rows_of}
 use Rattle.film_drawing.specs.Picture.{strokes_in}
@@ -202,3 +203,49 @@ draw_told sheet load page b room =
     (reach_told b q.bands l) (λ x _.
     told_then Any Any (band_test ls x.place x.words) (λ u. drawn_rows (band_rows h b) (joined (rows_of q.window (band_start h b) (band_rows h b) (strokes_in ls x))))
     (band_told ls x.place x.words) (λ u _. tt))))
+
+-- ---- the check
+
+check_faults : List Fault
+check_faults =
+    fault.Length
+    ∷ fault.Length
+    ∷ fault.Length
+    ∷ fault.Length
+    ∷ fault.Password
+    ∷ fault.Password
+    ∷ fault.Password
+    ∷ fault.Size
+    ∷ fault.Size
+    ∷ fault.Size
+    ∷ fault.Size
+    ∷ fault.Size
+    ∷ fault.LoadCount
+    ∷ fault.LoadCount
+    ∷ fault.LoadCount
+    ∷ fault.PageOrBandCount
+    ∷ []
+
+test_told : (sheet load : List ℕ) → Told Any (herald_test sheet load)
+unfolding check_faults herald_test herald_table length_table password_table size_table load_table page_table
+test_told sheet load = told_first check_faults (herald_table sheet load) refl
+
+after_told : (p : ℕ) (ws : List ℕ) (n : ℕ) → Told Any (nothing_after p ws n)
+after_told p [] n = tt
+after_told p (w ∷ ws) n = of fault.WordsAfter
+
+layout_told : (load : List ℕ) (n : ℕ) (x : Layout) → Laid x → Told Any (check_layout load n x)
+unfolding check_layout
+layout_told load n (page_head w rest) h = layout_told load n rest h
+layout_told load n (band x rest) h =
+    told_then Any Any (band_test load x.place x.words) (λ u. check_layout load n rest) (band_told load x.place x.words)
+    (λ u a. layout_told load n rest h)
+layout_told load n (ends a) h = told_then Any Any a (λ x. nothing_after x.place x.words n) h (λ x u. after_told x.place x.words n)
+
+pub check_told : (sheet load : List ℕ) → Told Any (check_answer sheet load)
+unfolding check_answer
+check_told sheet load =
+    let ws = words sheet in
+    told_then Any Any (herald_test sheet load) (λ u. check_layout (load_words load) (page_count ws) (layout_of ws)) (test_told sheet load)
+    (λ u a. layout_told (load_words load) (page_count ws) (layout_of ws)
+    (pages_laid (herald_of ws) (band_count (herald_of ws)) (page_count ws) 12 (drop 12 ws)))

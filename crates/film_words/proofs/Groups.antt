@@ -118,6 +118,11 @@ module _ (ws : List ℕ) where
       let one : suc p ≡ p + 1 = omega arith in
       ap group_extent (drop-cons ws p 0 h) ∙ ap (λ (x : ℕ). more 1 (lines_extent (drop x ws) (at ws p))) one
 
+  -- no group stands past the end
+  pub group-past : (p : ℕ) → length ws ≤ p → group_extent (drop p ws) ≡ none
+  unfolding group_extent
+  group-past p h = ap group_extent (drop_of_length-le ws {i = p} h)
+
   -- ---- the walk over the runs: it stands at place q with n lines to come
 
   -- the group at p takes the words up to q, and then those of n lines
@@ -156,6 +161,5 @@ module _ (ws : List ℕ) where
   walked_done p q (suc n) e z = absurd (omega arith)
 
 -- no group stands past the file's end
-pub group_past : (bs : List ℕ) (p : ℕ) → length bs / 2 ≤ p → group_extent (drop p (words bs)) ≡ none
-unfolding group_extent
-group_past bs p h = let l : length (words bs) ≤ p = omega (arith, length-words bs) in ap group_extent (drop_of_length-le (words bs) {i = p} l)
+pub no_group : (bs : List ℕ) (p : ℕ) → length bs / 2 ≤ p → group_extent (drop p (words bs)) ≡ none
+no_group bs p h = group-past (words bs) p (omega (arith, length-words bs))

@@ -75,10 +75,14 @@ module _ (ws : List ℕ) (p : ℕ) where
       let z : padding_bits (at ws (p + 1)) ≡ 0 = omega arith in
       no_padding (drop p ws) (at (drop p ws) 0) (ap padding_bits (at_drop p ws 1) ∙ z)
 
--- no word is there
-pub array_nowhere : (bs : List ℕ) (p : ℕ) → length bs / 2 ≤ p → padding_set (drop p (words bs)) ≡ false
-unfolding padding_set lines_padding_set
-array_nowhere bs p h = let l : length (words bs) ≤ p = omega (arith, length-words bs) in ap padding_set (drop_of_length-le (words bs) {i = p} l)
+  -- no word is there
+  pub array_nowhere : length ws ≤ p → padding_set (drop p ws) ≡ false
+  unfolding padding_set lines_padding_set
+  array_nowhere h = ap padding_set (drop_of_length-le ws {i = p} h)
+
+-- the last, by the file's bytes
+pub no_array : (bs : List ℕ) (p : ℕ) → length bs / 2 ≤ p → padding_set (drop p (words bs)) ≡ false
+no_array bs p h = array_nowhere (words bs) p (omega (arith, length-words bs))
 
 -- the mask of a line's padding, where it has some
 mask_is : (dots : ℕ) → (dots % 16 ≡ 0 → ⊥) → 65535 / 2 ^ (dots % 16) ≡ 2 ^ padding_bits dots - 1

@@ -65,7 +65,7 @@ pub fn array_extent(file: &[u8], p: usize) -> Option<usize>
 
 // Whether a bit is set in the padding of the sample array at place p: in each line's last word, the low bits that are no dots. The last word of each
 // line is read, and no other.
-#[tactic(auto, using(crate::proofs::Padding::array_nowhere, crate::proofs::Padding::array_unpadded, crate::proofs::Padding::array_clear))]
+#[tactic(auto, using(crate::proofs::Padding::no_array, crate::proofs::Padding::array_unpadded, crate::proofs::Padding::array_clear))]
 pub fn padding_set(file: &[u8], p: usize) -> bool
     ensures { result ≡ padding_set (drop p (words file.now)) }
 {
@@ -91,7 +91,7 @@ pub fn padding_set(file: &[u8], p: usize) -> bool
 }
 
 // How many words the run group at place p takes; none where it runs past the end.
-#[tactic(auto, using(crate::proofs::Groups::group_past, crate::proofs::Groups::walked_none, crate::proofs::Groups::walked_done))]
+#[tactic(auto, using(crate::proofs::Groups::no_group, crate::proofs::Groups::walked_none, crate::proofs::Groups::walked_done))]
 pub fn group_extent(file: &[u8], p: usize) -> Option<usize>
     ensures { result ≡ extent_of (group_extent (drop p (words file.now))) }
 {

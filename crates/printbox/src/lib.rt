@@ -17,19 +17,22 @@ ghost use Rattle.strip.specs.Step.{new_record};
 ghost use Rattle.strip_numbers.specs.Numbers.{record_of, record_with_status, NumberSteps};
 
 use gdi_jobs::WIDEST;
-use gdi_write::{Filled, Paper};
-use printbox_answers::{of_check, of_draw, of_fill, of_job, of_line, of_writing};
+use gdi_write::{PageHead, Paper};
+use printbox_answers::numbers;
+use refusal::{Fault, Refusal};
 use strip_numbers::{StripAnswer, StripRecord};
 
 // Checks a sheet with its load. Done: pages, 0.
+#[tactic(auto, using(printbox_answers::proofs::Laws::sheet_numbers))]
 #[unsafe(no_mangle)]
 pub extern "C" fn film_check(sheet: &[u8], load: &[u8], answer: &mut [u64; 3])
     ensures { answer.new ≡ of_check (check_answer sheet.now load.now) }
 {
-    *answer = of_check(film_check::check(sheet, load));
+    *answer = numbers(film_check::check(sheet, load));
 }
 
 // Draws band `band` of page `page` into the buffer, as film_draw::draw. Done: rows, dots.
+#[tactic(auto, using(printbox_answers::proofs::Laws::draw_numbers))]
 #[unsafe(no_mangle)]
 pub extern "C" fn film_draw<'a>(
     sheet: &'a [u8],
@@ -42,18 +45,20 @@ pub extern "C" fn film_draw<'a>(
     ensures answer_after { answer.new ≡ of_draw (draw.due (draw_answer sheet.now load.now page band (length buffer.old))) }
     ensures buffer_after { buffer.new ≡ buffer_after (draw_answer sheet.now load.now page band (length buffer.old)) buffer.old }
 {
-    *answer = of_draw(film_draw::draw(sheet, load, page, band, buffer));
+    *answer = numbers(film_draw::draw(sheet, load, page, band, buffer));
 }
 
 // Checks a job. Done: pages, 0.
+#[tactic(auto, using(printbox_answers::proofs::Laws::job_numbers))]
 #[unsafe(no_mangle)]
 pub extern "C" fn gdi_check(job: &[u8], answer: &mut [u64; 3])
     ensures { answer.new ≡ of_job (job_answer job.now) }
 {
-    *answer = of_job(gdi_check::check_job(job));
+    *answer = numbers(gdi_check::check_job(job));
 }
 
 // Reads the line at the place (offset, left) into the row, as gdi_read::read_line. Done: the next place.
+#[tactic(auto, using(printbox_answers::proofs::Laws::line_numbers))]
 #[unsafe(no_mangle)]
 pub extern "C" fn gdi_read_line(
     job: &[u8],
@@ -66,37 +71,41 @@ pub extern "C" fn gdi_read_line(
     ensures answer_after { answer.new ≡ of_line (lines.answer_of (lines.line_at job.now offset left width (length row.old))) }
     ensures row_after { row.new ≡ lines.row_after width (lines.line_at job.now offset left width (length row.old)) row.old }
 {
-    *answer = of_line(gdi_read::read_line(job, offset, left, width, row));
+    *answer = numbers(gdi_read::read_line(job, offset, left, width, row));
 }
 
 // Writes the head of a job. Done: bytes written, 0.
+#[tactic(auto, using(printbox_answers::proofs::Laws::writing_numbers))]
 #[unsafe(no_mangle)]
 pub extern "C" fn gdi_write_head(output: &mut [u8], answer: &mut [u64; 3])
     ensures answer_after { answer.new ≡ of_writing (answer_of (head_writing (length output.old))) }
     ensures output_after { output.new ≡ output_after (head_writing (length output.old)) output.old }
 {
-    *answer = of_writing(gdi_write::write_head(output));
+    *answer = numbers(gdi_write::write_head(output));
 }
 
 // Writes the end of a page. Done: bytes written, 0.
+#[tactic(auto, using(printbox_answers::proofs::Laws::writing_numbers))]
 #[unsafe(no_mangle)]
 pub extern "C" fn gdi_write_page_end(output: &mut [u8], answer: &mut [u64; 3])
     ensures answer_after { answer.new ≡ of_writing (answer_of (page_end_writing (length output.old))) }
     ensures output_after { output.new ≡ output_after (page_end_writing (length output.old)) output.old }
 {
-    *answer = of_writing(gdi_write::write_page_end(output));
+    *answer = numbers(gdi_write::write_page_end(output));
 }
 
 // Writes the end of a document. Done: bytes written, 0.
+#[tactic(auto, using(printbox_answers::proofs::Laws::writing_numbers))]
 #[unsafe(no_mangle)]
 pub extern "C" fn gdi_write_document_end(output: &mut [u8], answer: &mut [u64; 3])
     ensures answer_after { answer.new ≡ of_writing (answer_of (document_end_writing (length output.old))) }
     ensures output_after { output.new ≡ output_after (document_end_writing (length output.old)) output.old }
 {
-    *answer = of_writing(gdi_write::write_document_end(output));
+    *answer = numbers(gdi_write::write_document_end(output));
 }
 
 // Writes the head of a page. Done: bytes written, 0.
+#[tactic(auto, using(printbox_answers::proofs::Laws::writing_numbers))]
 #[unsafe(no_mangle)]
 pub extern "C" fn gdi_write_page_head(
     tray: u32,
@@ -116,27 +125,35 @@ pub extern "C" fn gdi_write_page_head(
         (record { tray = tray; width = width; height = height; format = format; paper_type = paper_type; copies = copies; toner = toner })
         (length output.old)) output.old }
 {
-    *answer = of_writing(gdi_write::write_page_head(
-        tray, width, height, format, paper_type, copies, toner, output,
-    ));
+    let head = PageHead {
+        tray,
+        width,
+        height,
+        format,
+        paper_type,
+        copies,
+        toner,
+    };
+    *answer = numbers(gdi_write::write_page_head(head, output));
 }
 
 // Writes a row as a line, as gdi_rows::write_row. Done: bytes written, 0.
+#[tactic(auto, using(printbox_answers::proofs::Laws::writing_numbers))]
 #[unsafe(no_mangle)]
 pub extern "C" fn gdi_write_row(width: usize, row: &[u8], output: &mut [u8], answer: &mut [u64; 3])
     ensures answer_after { answer.new ≡ of_writing (answer_of (row_writing width row.now (length output.old))) }
     ensures output_after { output.new ≡ output_after (row_writing width row.now (length output.old)) output.old }
 {
-    *answer = of_writing(gdi_rows::write_row(width, row, output));
+    *answer = numbers(gdi_rows::write_row(width, row, output));
 }
 
 // The linefill of paper of that width; its height and number do not matter.
 #[tactic(auto, using(crate::proofs::Widths::too_wide))]
-fn linefill(width: usize) -> Filled
+fn linefill(width: usize) -> Result<u16, Refusal>
     ensures { write.filled_as result ≡ fill_answer width }
 {
     if width > WIDEST {
-        return Filled::Refused(27, 0);
+        return Err(Fault::Writing.at(0));
     }
     let paper = Paper {
         width: width as u16,
@@ -147,11 +164,12 @@ fn linefill(width: usize) -> Filled
 }
 
 // The command of a white line. Done: the linefill, 0.
+#[tactic(auto, using(printbox_answers::proofs::Laws::fill_numbers))]
 #[unsafe(no_mangle)]
 pub extern "C" fn gdi_linefill(width: usize, answer: &mut [u64; 3])
     ensures { answer.new ≡ of_fill (fill_answer width) }
 {
-    *answer = of_fill(linefill(width));
+    *answer = numbers(linefill(width));
 }
 
 // A receiver's record before the first byte.

@@ -1,8 +1,0 @@
--- `printbox_answers::of_check` meets its contract. Assumes nothing.
-use Rattle.printbox_answers.proofs.of_check.Goals as goal
-
-pub returns-in-Pages : goal.returns-in-Pages
-returns-in-Pages c = rw c.in-Pages.is
-
-pub returns-in-Refused : goal.returns-in-Refused
-returns-in-Refused c = rw c.in-Refused.is

@@ -1,8 +1,0 @@
--- `printbox_answers::of_draw` meets its contract. Assumes nothing.
-use Rattle.printbox_answers.proofs.of_draw.Goals as goal
-
-pub returns-in-Done : goal.returns-in-Done
-returns-in-Done c = rw c.in-Done.is
-
-pub returns-in-Refused : goal.returns-in-Refused
-returns-in-Refused c = rw c.in-Refused.is
