@@ -1,6 +1,6 @@
 -- Laws of the code's answers: what was read, at its place. Assumes nothing.
 use Rattle.std.proofs.Common as code
-use Rattle.std.proofs.Common.{◌≡◌, refl, sym, ap, ◌∙◌, Bool, true, false, cond, Result, Ok, Err, Some, None, ok_or, List, ℕ, suc, ◌+◌, ◌<◌, ◌||◌, ltb, eqb, length, ◌⊎◌, inl, inr}
+use Rattle.std.proofs.Common.{◌≡◌, refl, sym, ap, ap₂, ◌∙◌, Bool, true, false, cond, Result, Ok, Err, Some, None, ok_or, List, [], ℕ, suc, ◌+◌, ◌<◌, ◌||◌, ltb, eqb, length, ◌⊎◌, inl, inr}
 use Rattle.std.proofs.Math.Option.{Option, none, some}
 use native.Mathlib.Nat.{add-zero}
 use Rattle.refusal.specs.Answers.{given, refused}
@@ -13,34 +13,37 @@ use Rattle.film_words.specs.Answers.{extent_of}
 use Rattle.film_words.proofs.Answers.{words-some, past_none}
 use Rattle.film_commands.specs.Refusals.{argument_words}
 use Rattle.film_commands.specs.Commands.{Command, ink, clear, Source, nowhere, Taken, taken, command}
-use Rattle.film_commands.specs.Code.{nothing, whole_at, located, placed, array_answer}
+use Rattle.film_commands.specs.Code.{part_for, whole_at, located, placed, array_answer}
 use Rattle.film_commands.proofs.Commands.{too_few, ink_read, clear_read}
 
 -- a refusal has the place of an argument word
-pub refused-after : {r : Refusal} {f : Fault} (p i : ℕ) (t : Taken) → r ≡ record { fault = f; place = p + i } → t ≡ refused (number_of f) i
-    → refused_as r ≡ placed p t
-refused-after p i t r e = ap (λ x. refused_as x) r ∙ sym (ap (placed p) e)
+pub refused-after : {r : Refusal} {f : Fault} (s l : List ℕ) (p i : ℕ) (t : Taken) → r ≡ record { fault = f; place = p + i } → t ≡ refused (number_of f) i
+    → refused_as r ≡ placed s l p t
+refused-after s l p i t r e = ap (λ x. refused_as x) r ∙ sym (ap (placed s l p) e)
 
 -- or of the code word
-pub refused-at : {r : Refusal} {f : Fault} (p : ℕ) (t : Taken) → r ≡ record { fault = f; place = p } → t ≡ refused (number_of f) 0
-    → refused_as r ≡ placed p t
-refused-at {r} {f} p t e = refused-after p 0 t (e ∙ ap (λ q. record { fault = f; place = q }) (sym (add-zero p)))
+pub refused-at : {r : Refusal} {f : Fault} (s l : List ℕ) (p : ℕ) (t : Taken) → r ≡ record { fault = f; place = p } → t ≡ refused (number_of f) 0
+    → refused_as r ≡ placed s l p t
+refused-at {r} {f} s l p t e = refused-after s l p 0 t (e ∙ ap (λ q. record { fault = f; place = q }) (sym (add-zero p)))
 
 -- there are too few argument words
-pub refused-cut : {r : Refusal} (p : ℕ) (load : List ℕ) (least code : ℕ) (args : List ℕ) → (eqb code 0 || ltb 10 code) ≡ false
-    → (r ≡ record { fault = fault.Cut; place = p }) × (length args < argument_words code) → refused_as r ≡ placed p (command load least code args)
-refused-cut p load least code args k (e, l) = refused-at p _ e (too_few load least code args k l)
+pub refused-cut : {r : Refusal} (s l : List ℕ) (p : ℕ) (load : List ℕ) (least code : ℕ) (args : List ℕ) → (eqb code 0 || ltb 10 code) ≡ false
+    → (r ≡ record { fault = fault.Cut; place = p }) × (length args < argument_words code) → refused_as r ≡ placed s l p (command load least code args)
+refused-cut s l p load least code args k (e, f) = refused-at s l p _ e (too_few load least code args k f)
 
--- a whole command ends before place q
-pub whole-at : (p n q : ℕ) (c : Command) (src : Source) (t : Taken) → t ≡ taken c src n → q ≡ p + suc n → whole_at c (located p src) q ≡ placed p t
-whole-at p n q c src t e h = ap (whole_at c (located p src)) h ∙ sym (ap (placed p) e)
+-- a whole command ends before place q, and its words are the part that its source names
+pub whole-at : (s l : List ℕ) (p n q : ℕ) (c : Command) (b : List ℕ) (src : Source) (t : Taken) → t ≡ taken c src n → b ≡ part_for s l (located p src)
+    → q ≡ p + suc n → whole_at c b q ≡ placed s l p t
+whole-at s l p n q c b src t e w h = ap₂ (whole_at c) w h ∙ sym (ap (placed s l p) e)
 
 -- ink and clear at place p
-pub ink_at : (load : List ℕ) (least p : ℕ) (args : List ℕ) → placed p (command load least 2 args) ≡ whole_at ink nothing (p + 1)
-ink_at load least p args = sym (whole-at p 0 (p + 1) ink nowhere (command load least 2 args) (ink_read load args least) refl)
+pub ink_at : (s l load : List ℕ) (least p : ℕ) (args : List ℕ) → placed s l p (command load least 2 args) ≡ whole_at ink [] (p + 1)
+unfolding part_for
+ink_at s l load least p args = sym (whole-at s l p 0 (p + 1) ink [] nowhere (command load least 2 args) (ink_read load args least) refl refl)
 
-pub clear_at : (load : List ℕ) (least p : ℕ) (args : List ℕ) → placed p (command load least 3 args) ≡ whole_at clear nothing (p + 1)
-clear_at load least p args = sym (whole-at p 0 (p + 1) clear nowhere (command load least 3 args) (clear_read load args least) refl)
+pub clear_at : (s l load : List ℕ) (least p : ℕ) (args : List ℕ) → placed s l p (command load least 3 args) ≡ whole_at clear [] (p + 1)
+unfolding part_for
+clear_at s l load least p args = sym (whole-at s l p 0 (p + 1) clear [] nowhere (command load least 3 args) (clear_read load args least) refl refl)
 
 -- what is given is the same where the answers are
 pub given_same : {A : Type 0} {a b : A} → given a ≡ given b → a ≡ b

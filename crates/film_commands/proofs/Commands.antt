@@ -295,16 +295,15 @@ module _ (load ws : List ℕ) (least v mode : ℕ) (h : v ≡ long_at ws 1) (l :
         let r : 3 + n ≤ length (drop (2 + v) (words load)) = omega (arith, length-drop (2 + v) (words load), length-drop (2 + v + 3) (words load)) in
         part_taken load (2 + v) (3 + n) r ∙ ap (take (3 + n)) (load_from load v _ h)
 
-    -- it has both: it is refused or taken, by its padding. Its address is its place in the load file less the two words of the count
+    -- it has both: it is refused or taken, by its padding
     pub tile_there : {dots : ℕ} {t : Bool} → (lines ≡ 0 → ⊥) → dots ≡ at (words load) (2 + v + 4) → (dots ≡ 0 → ⊥)
         → padding_set (drop (2 + v + 3) (words load)) ≡ t
         → command (load_words load) least 4 ws
-        ≡ cond t (refused 15 0) (taken (set_tile (eqb mode 1) (2 + v - 2) (words (part_of load (2 + v) (2 + v + (3 + n))))) (in_load v (3 + n)) 3)
+        ≡ cond t (refused 15 0) (taken (set_tile (eqb mode 1) v (words (part_of load (2 + v) (2 + v + (3 + n))))) (in_load v (3 + n)) 3)
     tile_there {dots} {t} s d z q =
-        let address : 2 + v - 2 ≡ v = omega arith in
         let alone = ap (λ (r : List ℕ). padding_set (take n r)) (sym (tile_from_lem 3)) ∙ padding_alone (drop (2 + v + 3) (words load)) n x ∙ q in
         tile-measured (some n) x
-        ∙ rw (ne_eqb _ 0 (λ y. s (w ∙ tile_word 3 ∙ y)), ne_eqb _ 0 (λ y. z (d ∙ tile_word 4 ∙ y)), alone, ← m, tile_part_lem, address, h) (padded_is t _)
+        ∙ rw (ne_eqb _ 0 (λ y. s (w ∙ tile_word 3 ∙ y)), ne_eqb _ 0 (λ y. z (d ∙ tile_word 4 ∙ y)), alone, ← m, tile_part_lem, h) (padded_is t _)
 
 -- ---- the command at place p of a band that ends before place e
 

@@ -1,5 +1,5 @@
 // The command reader. A command is read from a sheet at any place; what it names in the sheet or the load stays there, and is handed out
-// uncopied.
+// uncopied, as a part of the one or the other.
 #![tactic(auto)]
 
 ghost use Rattle.std.specs.Prelude.{◌≡◌, List, ℕ, ◌+◌, ◌<◌, ◌≤◌, ◌^◌, IfErr, IfOk, drop, length};
@@ -9,24 +9,10 @@ ghost use Rattle.film_words.specs.Load.{load_words};
 ghost use Rattle.film_words.specs.Arrays.{array_extent};
 ghost use Rattle.film_words.specs.Padding.{padding_set};
 ghost use Rattle.film_commands.specs.Commands.{command, command_in};
-ghost use Rattle.film_commands.specs.Code.{array_answer, of_source, part_for, placed, read_as, tile_part};
+ghost use Rattle.film_commands.specs.Code.{array_answer, placed, read_as};
 
 use film_words::{array_extent, group_extent, long, padding_set, part, word};
 use refusal::{Fault, Refusal};
-
-#[derive(Clone, Copy)]
-pub enum File {
-    Sheet,
-    Load,
-}
-
-// Where the words of a run group or a sample array stand: in a file, from place `from` up to, not including, `to`.
-#[derive(Clone, Copy)]
-pub struct Source {
-    pub file: File,
-    pub from: usize,
-    pub to: usize,
-}
 
 #[derive(Clone, Copy)]
 pub struct Rectangle {
@@ -46,44 +32,44 @@ pub struct Trapezoid {
     pub f_size_last: u16,
 }
 
-// A mask: its numbers, and where the words of a group or an array stand.
+// A mask: its numbers, and the words of its run group or its sample array.
 #[derive(Clone, Copy)]
-pub enum Mask {
+pub enum Mask<'a> {
     Rectangle(Rectangle),
     Trapezoid(Trapezoid),
     Runs {
         s_min: u16,
-        source: Source,
+        group: &'a [u8],
     },
     Samples {
         s_min: u16,
         f_min: u16,
-        source: Source,
+        array: &'a [u8],
     },
 }
 
-// A tile stands in the load file from place `from` up to, not including, `to`.
+// A tile: its address in the load, and its words.
 #[derive(Clone, Copy)]
-pub struct Tile {
+pub struct Tile<'a> {
     pub transparent: bool,
-    pub from: usize,
-    pub to: usize,
+    pub address: usize,
+    pub words: &'a [u8],
 }
 
 #[derive(Clone, Copy)]
-pub enum Command {
+pub enum Command<'a> {
     Priority(u32),
     Ink,
     Clear,
-    Tile(Tile),
-    Paint(Mask),
+    Tile(Tile<'a>),
+    Paint(Mask<'a>),
 }
 
 // Ink is `Solid(true)`, clear is `Solid(false)`.
 #[derive(Clone, Copy)]
-pub enum Colour {
+pub enum Colour<'a> {
     Solid(bool),
-    Tile(Tile),
+    Tile(Tile<'a>),
 }
 
 // The refusals of one command, in their order: an unknown code; a command past its band; a priority over its limit or falling, a tile mode that is
@@ -128,11 +114,11 @@ impl<'a> Args<'a> {
     }
 }
 
-// The readers of one command each. They give the command and the place after it. A reader that is given no load or no priority promises its answer for
-// every one.
+// The readers of one command each. They give the command and the place after it. A reader that is given no sheet, no load or no priority promises its
+// answer for every one.
 
 fn read_priority(args: Args, least: u32) -> Result<(Command, usize), Refusal>
-    ensures { (s l load : List ℕ) → read_as s l result ≡ placed args.entry.p (command load least 1 (words args.entry.after.now)) }
+    ensures { (s l load : List ℕ) → read_as result ≡ placed s l args.entry.p (command load least 1 (words args.entry.after.now)) }
 {
     args.need(2)?;
     if args.word(1) > 255 {
@@ -146,15 +132,16 @@ fn read_priority(args: Args, least: u32) -> Result<(Command, usize), Refusal>
 }
 
 // Addresses of the load count after its two count words, here and in the two other readers from the load.
-fn read_tile(args: Args, load: &[u8]) -> Result<(Command, usize), Refusal>
-    ensures { (s : List ℕ) (least : ℕ) → read_as s load.now result ≡ placed args.entry.p (command (load_words load.now) least 4 (words args.entry.after.now)) }
+fn read_tile<'a>(args: Args<'a>, load: &'a [u8]) -> Result<(Command<'a>, usize), Refusal>
+    ensures { (s : List ℕ) (least : ℕ) → read_as result ≡ placed s load.now args.entry.p (command (load_words load.now) least 4 (words args.entry.after.now)) }
 {
     args.need(3)?;
     let mode = args.word(0);
     if mode > 1 {
         return Err(Fault::TileMode.at(args.p + MODE));
     }
-    let from = 2 + args.long(1) as usize;
+    let address = args.long(1) as usize;
+    let from = 2 + address;
     let n = array_extent(load, from + 3).ok_or(Fault::LoadRange.at(args.p))?;
     if word(load, from + 3) == 0 || word(load, from + 4) == 0 {
         return Err(Fault::LoadRange.at(args.p));
@@ -162,16 +149,17 @@ fn read_tile(args: Args, load: &[u8]) -> Result<(Command, usize), Refusal>
     if padding_set(load, from + 3) {
         return Err(Fault::Padding.at(args.p));
     }
+    let to = from + (3 + n);
     let tile = Tile {
         transparent: mode == 1,
-        from,
-        to: from + (3 + n),
+        address,
+        words: part(load, from, to),
     };
     Ok((Command::Tile(tile), args.p + 4))
 }
 
 fn read_rectangle(args: Args) -> Result<(Command, usize), Refusal>
-    ensures { (s l load : List ℕ) (least : ℕ) → read_as s l result ≡ placed args.entry.p (command load least 5 (words args.entry.after.now)) }
+    ensures { (s l load : List ℕ) (least : ℕ) → read_as result ≡ placed s l args.entry.p (command load least 5 (words args.entry.after.now)) }
 {
     args.need(4)?;
     let rectangle = Rectangle {
@@ -184,7 +172,7 @@ fn read_rectangle(args: Args) -> Result<(Command, usize), Refusal>
 }
 
 fn read_trapezoid(args: Args) -> Result<(Command, usize), Refusal>
-    ensures { (s l load : List ℕ) (least : ℕ) → read_as s l result ≡ placed args.entry.p (command load least 6 (words args.entry.after.now)) }
+    ensures { (s l load : List ℕ) (least : ℕ) → read_as result ≡ placed s l args.entry.p (command load least 6 (words args.entry.after.now)) }
 {
     args.need(6)?;
     let trapezoid = Trapezoid {
@@ -199,37 +187,34 @@ fn read_trapezoid(args: Args) -> Result<(Command, usize), Refusal>
 }
 
 // The group stands two words after the code word, in the sheet of which the arguments are the part from the place after it up to `end`.
-fn read_runs(sheet: &[u8], args: Args, end: usize) -> Result<(Command, usize), Refusal>
+fn read_runs<'a>(
+    sheet: &'a [u8],
+    args: Args<'a>,
+    end: usize,
+) -> Result<(Command<'a>, usize), Refusal>
     requires { (args.p < end) × (end ≤ length (words sheet.now)) × (args.after.now ≡ part_of sheet.now (args.p + 1) end) }
-    ensures { (l load : List ℕ) (least : ℕ) → read_as sheet.now l result ≡ placed args.entry.p (command load least 7 (words args.entry.after.now)) }
+    ensures { (l load : List ℕ) (least : ℕ) → read_as result ≡ placed sheet.now l args.entry.p (command load least 7 (words args.entry.after.now)) }
 {
     let n = group_extent(args.after, 1).ok_or(Fault::Cut.at(args.p))?;
     let from = args.p + 2;
     let to = from + n;
     let runs = Mask::Runs {
         s_min: args.word(0),
-        source: Source {
-            file: File::Sheet,
-            from,
-            to,
-        },
+        group: part(sheet, from, to),
     };
     Ok((Command::Paint(runs), to))
 }
 
-fn read_load_runs(args: Args, load: &[u8]) -> Result<(Command, usize), Refusal>
-    ensures { (s : List ℕ) (least : ℕ) → read_as s load.now result ≡ placed args.entry.p (command (load_words load.now) least 8 (words args.entry.after.now)) }
+fn read_load_runs<'a>(args: Args<'a>, load: &'a [u8]) -> Result<(Command<'a>, usize), Refusal>
+    ensures { (s : List ℕ) (least : ℕ) → read_as result ≡ placed s load.now args.entry.p (command (load_words load.now) least 8 (words args.entry.after.now)) }
 {
     args.need(3)?;
     let from = 2 + args.long(0) as usize;
     let n = group_extent(load, from).ok_or(Fault::LoadRange.at(args.p))?;
+    let to = from + n;
     let runs = Mask::Runs {
         s_min: args.word(2),
-        source: Source {
-            file: File::Load,
-            from,
-            to: from + n,
-        },
+        group: part(load, from, to),
     };
     Ok((Command::Paint(runs), args.p + 4))
 }
@@ -246,9 +231,13 @@ fn whole_array(file: &[u8], q: usize, past: Fault, p: usize) -> Result<usize, Re
 }
 
 // The array stands three words after the code word.
-fn read_samples(sheet: &[u8], args: Args, end: usize) -> Result<(Command, usize), Refusal>
+fn read_samples<'a>(
+    sheet: &'a [u8],
+    args: Args<'a>,
+    end: usize,
+) -> Result<(Command<'a>, usize), Refusal>
     requires { (args.p < end) × (end ≤ length (words sheet.now)) × (args.after.now ≡ part_of sheet.now (args.p + 1) end) }
-    ensures { (l load : List ℕ) (least : ℕ) → read_as sheet.now l result ≡ placed args.entry.p (command load least 9 (words args.entry.after.now)) }
+    ensures { (l load : List ℕ) (least : ℕ) → read_as result ≡ placed sheet.now l args.entry.p (command load least 9 (words args.entry.after.now)) }
 {
     let n = whole_array(args.after, 2, Fault::Cut, args.p)?;
     let from = args.p + 3;
@@ -256,44 +245,38 @@ fn read_samples(sheet: &[u8], args: Args, end: usize) -> Result<(Command, usize)
     let samples = Mask::Samples {
         s_min: args.word(0),
         f_min: args.word(1),
-        source: Source {
-            file: File::Sheet,
-            from,
-            to,
-        },
+        array: part(sheet, from, to),
     };
     Ok((Command::Paint(samples), to))
 }
 
-fn read_load_samples(args: Args, load: &[u8]) -> Result<(Command, usize), Refusal>
-    ensures { (s : List ℕ) (least : ℕ) → read_as s load.now result ≡ placed args.entry.p (command (load_words load.now) least 10 (words args.entry.after.now)) }
+fn read_load_samples<'a>(args: Args<'a>, load: &'a [u8]) -> Result<(Command<'a>, usize), Refusal>
+    ensures { (s : List ℕ) (least : ℕ) → read_as result ≡ placed s load.now args.entry.p (command (load_words load.now) least 10 (words args.entry.after.now)) }
 {
     args.need(4)?;
     let from = 2 + args.long(0) as usize;
     let n = whole_array(load, from, Fault::LoadRange, args.p)?;
+    let to = from + n;
     let samples = Mask::Samples {
         s_min: args.word(2),
         f_min: args.word(3),
-        source: Source {
-            file: File::Load,
-            from,
-            to: from + n,
-        },
+        array: part(load, from, to),
     };
     Ok((Command::Paint(samples), args.p + 5))
 }
 
 // The command at place p of a band that ends before place `end`, where the band's priority so far is `least`, and the place after it. Where the sheet
-// has not all words from p up to `end`, or there are none, no command is there, and it is cut at p.
-#[tactic(auto, using(crate::proofs::Commands::command_here, crate::proofs::Answers::ink_at, crate::proofs::Answers::clear_at), unfolding(crate::specs::Code::command_of))]
-pub fn read_command(
-    sheet: &[u8],
-    load: &[u8],
+// has not all words from p up to `end`, or there are none, no command is there, and it is cut at p. The words of a tile, a group or an array are
+// the part of the load or of the sheet that holds them.
+#[tactic(auto, using(crate::proofs::Commands::command_here, crate::proofs::Answers::ink_at, crate::proofs::Answers::clear_at), unfolding(crate::specs::Code::command_of, crate::specs::Code::bytes_in))]
+pub fn read_command<'a>(
+    sheet: &'a [u8],
+    load: &'a [u8],
     p: usize,
     end: usize,
     least: u32,
-) -> Result<(Command, usize), Refusal>
-    ensures { read_as sheet.now load.now result ≡ placed p (command_in (load_words load.now) least (words (part_of sheet.now p end))) }
+) -> Result<(Command<'a>, usize), Refusal>
+    ensures { read_as result ≡ placed sheet.now load.now p (command_in (load_words load.now) least (words (part_of sheet.now p end))) }
 {
     if p >= end || end > sheet.len() / 2 {
         return Err(Fault::Cut.at(p));
@@ -312,26 +295,5 @@ pub fn read_command(
         9 => read_samples(sheet, args, end),
         10 => read_load_samples(args, load),
         _ => Err(Fault::UnknownCode.at(p)),
-    }
-}
-
-// The words of a run group or a sample array, uncopied. Empty where its range is not in the file.
-pub fn source_words<'a>(sheet: &'a [u8], load: &'a [u8], source: Source) -> &'a [u8]
-    ensures { result.now ≡ part_for sheet.now load.now (of_source source) }
-{
-    let Source { file, from, to } = source;
-    match file {
-        File::Sheet => part(sheet, from, to),
-        File::Load => part(load, from, to),
-    }
-}
-
-// The words of the colour's tile, uncopied: a part of the load file; none where it is no tile.
-pub fn tile_words(load: &[u8], colour: Colour) -> &[u8]
-    ensures { result.now ≡ tile_part load.now colour }
-{
-    match colour {
-        Colour::Tile(t) => part(load, t.from, t.to),
-        Colour::Solid(_) => &[],
     }
 }

@@ -25,7 +25,7 @@ pub record Ahead : Type 0 where
 unfoldable pub ahead_of : (sheet load : List ℕ) → ℕ → Cursor → Ahead
 ahead_of sheet load e c =
     let r = read_from (load_words load) c.least 0 c.at (words (part_of sheet c.at e)) in
-    record { strokes = strokes_from 0 c.least (colour_of load c.colour) r.items; ends = r.ends }
+    record { strokes = strokes_from 0 c.least (colour_of c.colour) r.items; ends = r.ends }
 
 -- a stroke, and what is ahead after it
 abbrev pub with_stroke : Stroke → Ahead → Ahead
@@ -37,7 +37,7 @@ moved_to p c = record { at = p; least = c.least; colour = c.colour }
 
 -- a step of cursor c, the band's end or a refusal, and what is ahead after it
 abbrev pub step_as : (sheet load : List ℕ) (e : ℕ) → Cursor → Result (Option code.Step) Refusal → Ahead
-step_as sheet load e c (Ok (Some (Paint m p))) = with_stroke (stroke c.at c.least (colour_of load c.colour) (mask_of sheet load m)) (ahead_of sheet load e (moved_to p c))
+step_as sheet load e c (Ok (Some (Paint m p))) = with_stroke (stroke c.at c.least (colour_of c.colour) (mask_of m)) (ahead_of sheet load e (moved_to p c))
 step_as sheet load e c (Ok (Some (Other d))) = ahead_of sheet load e d
 step_as sheet load e c (Ok None) = record { strokes = []; ends = fine }
 step_as sheet load e c (Err r) = record { strokes = []; ends = refused_as r }

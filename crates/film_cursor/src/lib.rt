@@ -14,28 +14,36 @@ use refusal::Refusal;
 
 // A cursor over a band's commands: the place of the next one, and the priority and the colour that hold there.
 #[derive(Clone, Copy)]
-pub struct Cursor {
+pub struct Cursor<'a> {
     pub at: usize,
     pub least: u32,
-    pub colour: Colour,
+    pub colour: Colour<'a>,
 }
 
 // What stands at a cursor: a mask, to be painted in the cursor's colour, and the place after it; or another command, and the cursor after it.
 #[derive(Clone, Copy)]
-pub enum Step {
-    Paint(Mask, usize),
-    Other(Cursor),
+pub enum Step<'a> {
+    Paint(Mask<'a>, usize),
+    Other(Cursor<'a>),
 }
 
 // The cursor's next command, in a band that ends before place `end`; none at the band's end. Where the sheet has not all words up to `end`, there is
 // none.
-pub fn advance(sheet: &[u8], load: &[u8], end: usize, c: Cursor) -> Result<Option<Step>, Refusal>
+pub fn advance<'a>(
+    sheet: &'a [u8],
+    load: &'a [u8],
+    end: usize,
+    c: Cursor<'a>,
+) -> Result<Option<Step<'a>>, Refusal>
     ensures { Stepped sheet.now load.now end c result }
 {
     if c.at >= end || end > sheet.len() / 2 {
         return Ok(None);
     }
-    let (command, next) = read_command(sheet, load, c.at, end, c.least)?;
+    let read = read_command(sheet, load, c.at, end, c.least);
+    let Ok((command, next)) = read else {
+        return read.map(|_| None);
+    };
     let after = Cursor { at: next, ..c };
     Ok(Some(match command {
         Command::Paint(m) => Step::Paint(m, next),
@@ -56,7 +64,7 @@ pub fn advance(sheet: &[u8], load: &[u8], end: usize, c: Cursor) -> Result<Optio
 }
 
 // The cursor at a band's first command: priority 0, and ink.
-pub fn start(from: usize) -> Cursor
+pub fn start<'a>(from: usize) -> Cursor<'a>
     ensures { (result.at ≡ from) × (result.least ≡ 0) × (result.colour ≡ Colour.Solid true) }
 {
     Cursor {
@@ -67,7 +75,7 @@ pub fn start(from: usize) -> Cursor
 }
 
 // The test of a band's commands, from place `from` up to, not including, place `end`. A sheet that ends before `end` has none there.
-pub fn test_band(sheet: &[u8], load: &[u8], from: usize, end: usize) -> Result<(), Refusal>
+pub fn test_band<'a>(sheet: &'a [u8], load: &'a [u8], from: usize, end: usize) -> Result<(), Refusal>
     ensures { tested_as result ≡ band_test (load_words load.now) from (words (part_of sheet.now from end)) }
 {
     let mut c = start(from);

@@ -12,7 +12,7 @@ pub returns-then-p-end : goal.returns-then-p-end
 unfolding words
 returns-then-p-end c =
     let a = c.args in
-    refused-at a.p _ c.at.ensures
+    refused-at a.sheet.now a.load.now a.p _ c.at.ensures
     (no_command _ _ _
     (ap words
     (elim c.then-p-end.branch [
@@ -30,6 +30,6 @@ pub returns-in_default : goal.returns-in_default
 returns-in_default c =
     let a = c.args in
     let ws = words a.sheet.now in
-    refused-at a.p _ c.at-in_default.ensures
+    refused-at a.sheet.now a.load.now a.p _ c.at-in_default.ensures
     (command_here _ a.least a.sheet.now a.p a.end c.if-p-end.false c.if-end-sheet.false
     ∙ command_unknown _ _ (at ws a.p) _ (λ h. omega (arith, c.word.ensures)))

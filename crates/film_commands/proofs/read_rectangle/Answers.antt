@@ -2,7 +2,7 @@
 use Rattle.std.proofs.Common.{refl}
 use Rattle.std.proofs.lemmas.Result.{err_from_is_err_and}
 use Rattle.film_words.specs.Words.{words}
-use Rattle.film_commands.specs.Code.{command_of, part_for}
+use Rattle.film_commands.specs.Code.{command_of, mask_of, bytes_in, bytes_in_mask, part_for}
 use Rattle.film_commands.proofs.Commands.{rectangle_read}
 use Rattle.film_commands.proofs.Answers.{refused-cut, whole-at}
 use Rattle.film_commands.proofs.read_rectangle.Goals as goal
@@ -10,12 +10,12 @@ use Rattle.film_commands.proofs.read_rectangle.Goals as goal
 pub returns-in_err-need : goal.returns-in_err-need
 returns-in_err-need c = λ s l load least.
     let a = c.args in
-    let x = err_from_is_err_and c.from_residual.result c.from_residual.ensures.1 in rw (x.1, x.2) (refused-cut a.args.p load least 5 (words a.args.after.now) refl c.in_err-need.ensures.cut)
+    let x = err_from_is_err_and c.from_residual.result c.from_residual.ensures.1 in rw (x.1, x.2) (refused-cut s l a.args.p load least 5 (words a.args.after.now) refl c.in_err-need.ensures.cut)
 
 pub returns : goal.returns
-unfolding command_of part_for
+unfolding command_of mask_of bytes_in bytes_in_mask part_for
 returns c = λ s l load least.
     let a = c.args in
-    whole-at a.args.p 4 _ _ _ _
+    whole-at s l a.args.p 4 _ _ _ _ _
     (rectangle_read load (words a.args.after.now) least c.word.ensures c.word-2.ensures c.word-3.ensures c.word-4.ensures c.in_ok-need.ensures.enough)
-    refl
+    refl refl

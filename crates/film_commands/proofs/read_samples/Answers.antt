@@ -3,7 +3,7 @@ use Rattle.std.proofs.Common.{arith, refl, inl, inr}
 use Rattle.std.proofs.lemmas.Result.{err_from_is_err_and}
 use Rattle.film_words.specs.Words.{words}
 use Rattle.film_words.proofs.Words.{length-words}
-use Rattle.film_commands.specs.Code.{command_of, part_for}
+use Rattle.film_commands.specs.Code.{command_of, mask_of, bytes_in, bytes_in_mask, part_for}
 use Rattle.film_commands.proofs.Commands.{samples_past, samples_there, samples_end}
 use Rattle.film_commands.proofs.Answers.{refused-at, whole-at, array_ok, array_err}
 use Rattle.film_commands.proofs.read_samples.Goals as goal
@@ -14,9 +14,9 @@ returns-in_err-n c = λ l load least.
     let x = err_from_is_err_and c.from_residual.result c.from_residual.ensures.1 in
     rw (x.1, x.2)
     (elim (array_err _ _ _ _ c.whole_array.ensures c.in_err-n.was) [
-      | inl m ↦ refused-at a.args.p _ m.1 (samples_past load (words a.args.after.now) least m.0)
+      | inl m ↦ refused-at a.sheet.now l a.args.p _ m.1 (samples_past load (words a.args.after.now) least m.0)
       | inr m ↦
-          refused-at a.args.p _ m.1.2
+          refused-at a.sheet.now l a.args.p _ m.1.2
           (samples_there a.sheet.now a.args.after.now a.args.p a.end c.requires.0 c.requires.1 c.requires.2 load least m.0 refl refl m.1.0 m.1.1)
     ])
 
@@ -31,11 +31,12 @@ overflow_add-to c =
     omega (arith, length-words a.sheet.now, e)
 
 pub returns : goal.returns
-unfolding command_of part_for
+unfolding command_of mask_of bytes_in bytes_in_mask part_for
 returns c = λ l load least.
     let a = c.args in
     let m = array_ok _ _ _ _ c.whole_array.ensures c.in_ok-n.was in
-    whole-at a.args.p _ _ _ _ _
+    rw c.part.ensures
+    (whole-at a.sheet.now l a.args.p _ _ _ _ _ _
     (samples_there a.sheet.now a.args.after.now a.args.p a.end c.requires.0 c.requires.1 c.requires.2 load least c.in_ok-n.n
     c.word.ensures c.word-2.ensures m.0 m.1)
-    (omega arith)
+    refl (omega arith))
