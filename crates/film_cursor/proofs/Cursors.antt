@@ -15,7 +15,7 @@ use Rattle.film_words.specs.Load.{load_words}
 use Rattle.film_words.proofs.Parts.{part_words, part_first, drop_part}
 use Rattle.film_commands.specs.Commands.{Command, Taken, command, command_in}
 use Rattle.film_commands.specs.Band.{Reading, priority_after, with_command, read_from, read_band, Colour, solid, Stroke, colour_after, stroke_of, strokes_from, strokes}
-use Rattle.film_commands.specs.Code.{part_for, mask_of, command_of, Placed, placed, read_as, tile_part, colour_with, colour_of}
+use Rattle.film_commands.specs.Code.{mask_of, command_of, Placed, placed, read_as, colour_of}
 use Rattle.film_cursor.specs.Cursors.{reading, Ahead, ahead_of, moved_to, step_as, Onward, Stepped}
 use Rattle.film_commands.specs.declared.Mask as code-mask
 use Rattle.film_commands.specs.declared.Command as code-command
@@ -52,14 +52,14 @@ step_end sheet load e c h =
       is =
           sym
           (ap
-          (λ (r : List ℕ). ahead c.least (colour_of load c.colour) (read_from (load_words load) c.least 0 c.at (words r)))
+          (λ (r : List ℕ). ahead c.least (colour_of c.colour) (read_from (load_words load) c.least 0 c.at (words r)))
           h);
       on = tt;
     }
 
 -- the reader gives r
 module _ (sheet load : List ℕ) (e : ℕ) (c : Cursor) (h : c.at < e) (l : e ≤ length (words sheet)) (r : Result (code-command.Command × ℕ) Refusal)
-    (x : read_as sheet load r ≡ placed c.at (command_in (load_words load) c.least (words (part_of sheet c.at e)))) where
+    (x : read_as r ≡ placed sheet load c.at (command_in (load_words load) c.least (words (part_of sheet c.at e)))) where
   -- the load's words, the cursor's code word, the words after it, and its colour
   abbrev L : List ℕ
   L = load_words load
@@ -71,7 +71,7 @@ module _ (sheet load : List ℕ) (e : ℕ) (c : Cursor) (h : c.at < e) (l : e �
   args = words (part_of sheet (c.at + 1) e)
 
   abbrev C : Colour
-  C = colour_of load c.colour
+  C = colour_of c.colour
 
   -- the command at the cursor, and what is read from a place on where the priority is q
   abbrev here : Taken
@@ -93,14 +93,14 @@ module _ (sheet load : List ℕ) (e : ℕ) (c : Cursor) (h : c.at < e) (l : e �
   by_code t q = ap (command_in L c.least) (sym (part_first sheet c.at e h l)) ∙ q
 
   -- it is whole
-  whole : (d : code-command.Command) (next : ℕ) → r ≡ Ok (d, next) → (c.at < next) × (ahead_of sheet load e c ≡ after (command_of sheet load d) next)
+  whole : (d : code-command.Command) (next : ℕ) → r ≡ Ok (d, next) → (c.at < next) × (ahead_of sheet load e c ≡ after (command_of d) next)
   unfolding ahead_of strokes_from
-  whole d next y = go here refl (sym (ap (read_as sheet load) y) ∙ x)
+  whole d next y = go here refl (sym (ap (read_as) y) ∙ x)
     where
-      go : (t : Taken) → here ≡ t → read_as sheet load (Ok (d, next)) ≡ placed c.at t
-          → (c.at < next) × (ahead c.least C (from c.least c.at) ≡ after (command_of sheet load d) next)
+      go : (t : Taken) → here ≡ t → read_as (Ok (d, next)) ≡ placed sheet load c.at t
+          → (c.at < next) × (ahead c.least C (from c.least c.at) ≡ after (command_of d) next)
       go (given w) q z =
-          let same : w.command ≡ command_of sheet load d = sym (ap (λ (k : Placed). k.command) (given_same z)) in
+          let same : w.command ≡ command_of d = sym (ap (λ (k : Placed). k.command) (given_same z)) in
           let place : next ≡ c.at + suc w.more = ap (λ (k : Placed). k.next) (given_same z) in
           let on : suc c.at + w.more ≡ next = omega arith in
           let none : 0 + c.at ≡ c.at = omega arith in
@@ -118,9 +118,9 @@ module _ (sheet load : List ℕ) (e : ℕ) (c : Cursor) (h : c.at < e) (l : e �
   -- it is refused
   pub refusing : (v : Refusal) → r ≡ Err v → Stepped sheet load e c (Err v)
   unfolding ahead_of strokes_from
-  refusing v y = record { is = go here refl (sym (ap (read_as sheet load) y) ∙ x); on = tt }
+  refusing v y = record { is = go here refl (sym (ap (read_as) y) ∙ x); on = tt }
     where
-      go : (t : Taken) → here ≡ t → refused_as v ≡ placed c.at t
+      go : (t : Taken) → here ≡ t → refused_as v ≡ placed sheet load c.at t
           → record { strokes = []; ends = refused_as v } ≡ ahead c.least C (from c.least c.at)
       go (given w) q z = let o : ◌≡◌ {A = ℕ} 0 1 = cc in absurd (omega arith)
       go (refused n i) q z =
@@ -134,7 +134,7 @@ module _ (sheet load : List ℕ) (e : ℕ) (c : Cursor) (h : c.at < e) (l : e �
   -- the commands, one by one
   module _ (d : code-command.Command) (next : ℕ) (y : r ≡ Ok (d, next)) where
     -- it is the command k
-    found : (k : code-command.Command) → d ≡ k → (c.at < next) × (ahead_of sheet load e c ≡ after (command_of sheet load k) next)
+    found : (k : code-command.Command) → d ≡ k → (c.at < next) × (ahead_of sheet load e c ≡ after (command_of k) next)
     found k z = whole k next (y ∙ ap (λ (j : code-command.Command). Ok (j, next)) z)
 
     -- it is a mask
@@ -150,18 +150,18 @@ module _ (sheet load : List ℕ) (e : ℕ) (c : Cursor) (h : c.at < e) (l : e �
 
     -- it is ink
     pub step_ink : d ≡ Ink → Stepped sheet load e c (Ok (Some (step.Other (record { at = next; least = c.least; colour = colour.Solid true }))))
-    unfolding command_of ahead_of colour_of colour_with
+    unfolding command_of ahead_of colour_of
     step_ink z = let w = found Ink z in record { is = sym w.1; on = (h, w.0) }
 
     -- it is clear
     pub step_clear : d ≡ Clear → Stepped sheet load e c (Ok (Some (step.Other (record { at = next; least = c.least; colour = colour.Solid false }))))
-    unfolding command_of ahead_of colour_of colour_with
+    unfolding command_of ahead_of colour_of
     step_clear z = let w = found Clear z in record { is = sym w.1; on = (h, w.0) }
 
     -- it is a tile
     pub step-tile : (t : code-tile.Tile) → d ≡ Tile t
         → Stepped sheet load e c (Ok (Some (step.Other (record { at = next; least = c.least; colour = colour.Tile t }))))
-    unfolding command_of ahead_of colour_of colour_with tile_part part_for
+    unfolding command_of ahead_of colour_of
     step-tile t z = let w = found (Tile t) z in record { is = sym w.1; on = (h, w.0) }
 
 -- ---- a walk
@@ -175,7 +175,7 @@ met {sheet} {load} {e} {c} s x q = (sym x.is ∙ ap (step_as sheet load e c) q, 
 pub ahead-at-start : (sheet load : List ℕ) (b e : ℕ) (c : Cursor) → (c.at ≡ b) × (c.least ≡ 0) × (c.colour ≡ colour.Solid true)
     → ahead_of sheet load e c
     ≡ record { strokes = strokes b (reading sheet load b e).items; ends = counted_from b (reading sheet load b e).ends }
-unfolding ahead_of read_band strokes colour_of colour_with
+unfolding ahead_of read_band strokes colour_of
 ahead-at-start sheet load b e c (p, q, k) =
     let ws = words (part_of sheet b e) in
     let R = read_from (load_words load) 0 0 0 ws in

@@ -35,7 +35,7 @@ pub fn advance<'a>(
     end: usize,
     c: Cursor<'a>,
 ) -> Result<Option<Step<'a>>, Refusal>
-    ensures { Stepped sheet.now load.now end c result }
+    ensures { Stepped sheet.now load.now end c.entry result }
 {
     if c.at >= end || end > sheet.len() / 2 {
         return Ok(None);
@@ -75,15 +75,23 @@ pub fn start<'a>(from: usize) -> Cursor<'a>
 }
 
 // The test of a band's commands, from place `from` up to, not including, place `end`. A sheet that ends before `end` has none there.
-pub fn test_band<'a>(sheet: &'a [u8], load: &'a [u8], from: usize, end: usize) -> Result<(), Refusal>
+pub fn test_band<'a>(
+    sheet: &'a [u8],
+    load: &'a [u8],
+    from: usize,
+    end: usize,
+) -> Result<(), Refusal>
     ensures { tested_as result ≡ band_test (load_words load.now) from (words (part_of sheet.now from end)) }
 {
     let mut c = start(from);
-    while let Some(step) = advance(sheet, load, end, c)? {
+    // No `while let` with `?`: the check does not cover one over a value that holds a reference.
+    loop {
+        let Some(step) = advance(sheet, load, end, c)? else {
+            return Ok(());
+        };
         c = match step {
             Step::Paint(_, at) => Cursor { at, ..c },
             Step::Other(d) => d,
         };
     }
-    Ok(())
 }

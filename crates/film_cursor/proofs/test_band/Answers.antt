@@ -5,31 +5,31 @@ use Rattle.film_cursor.specs.declared.Step.TheVariants.{Paint, Other}
 use Rattle.film_cursor.proofs.Cursors.{test_start, met, test_paint, test_other, test_fine, test_refused}
 use Rattle.film_cursor.proofs.test_band.Goals as goal
 
-pub loop-step-init : goal.loop-step-init
-loop-step-init c = test_start _ _ _ _ _ c.start-c.ensures
+pub loop-c-init : goal.loop-c-init
+loop-c-init c = test_start _ _ _ _ _ c.start-c.ensures
 
-pub returns : goal.returns
-returns c = test_fine c.loop-step.invariant c.advance.ensures (c.in_ok-step.was ∙ ap (λ s. Ok s) c.in_default.is)
+pub returns-in_default : goal.returns-in_default
+returns-in_default c = test_fine c.loop-c.invariant c.advance.ensures (c.in_ok-step.was ∙ ap (λ s. Ok s) c.in_default.is)
 
 pub returns-in_err-step : goal.returns-in_err-step
 returns-in_err-step c =
     let x = err_from_is_err_and c.from_residual.result c.from_residual.ensures.1 in
-    rw (x.1, x.2) (test_refused c.loop-step.invariant c.advance.ensures _ c.in_err-step.was)
+    rw (x.1, x.2) (test_refused c.loop-c.invariant c.advance.ensures _ c.in_err-step.was)
 
-pub loop-step-preserved-in-Paint : goal.loop-step-preserved-in-Paint
-loop-step-preserved-in-Paint c =
-    test_paint c.loop-step.invariant c.advance.ensures _ _ (c.in_ok-step.was ∙ ap (λ s. Ok s) (c.in-Some.is ∙ ap (λ s. Some s) c.in-Paint.is))
+pub loop-c-preserved-in-Paint : goal.loop-c-preserved-in-Paint
+loop-c-preserved-in-Paint c =
+    test_paint c.loop-c.invariant c.advance.ensures _ _ (c.in_ok-step.was ∙ ap (λ s. Ok s) (c.in-Some.is ∙ ap (λ s. Some s) c.in-Paint.is))
 
-pub loop-step-smaller-in-Paint : goal.loop-step-smaller-in-Paint
-loop-step-smaller-in-Paint c =
+pub loop-c-smaller-in-Paint : goal.loop-c-smaller-in-Paint
+loop-c-smaller-in-Paint c =
     let on = met (Ok (Some (Paint _ _))) c.advance.ensures (c.in_ok-step.was ∙ ap (λ s. Ok s) (c.in-Some.is ∙ ap (λ s. Some s) c.in-Paint.is)) in
     omega (arith, on.1)
 
-pub loop-step-preserved : goal.loop-step-preserved
-loop-step-preserved c =
-    test_other c.loop-step.invariant c.advance.ensures _ (c.in_ok-step.was ∙ ap (λ s. Ok s) (c.in-Some.is ∙ ap (λ s. Some s) c.in-Other.is))
+pub loop-c-preserved : goal.loop-c-preserved
+loop-c-preserved c =
+    test_other c.loop-c.invariant c.advance.ensures _ (c.in_ok-step.was ∙ ap (λ s. Ok s) (c.in-Some.is ∙ ap (λ s. Some s) c.in-Other.is))
 
-pub loop-step-smaller : goal.loop-step-smaller
-loop-step-smaller c =
+pub loop-c-smaller : goal.loop-c-smaller
+loop-c-smaller c =
     let on = met (Ok (Some (Other _))) c.advance.ensures (c.in_ok-step.was ∙ ap (λ s. Ok s) (c.in-Some.is ∙ ap (λ s. Some s) c.in-Other.is)) in
     omega (arith, on.1)

@@ -3,8 +3,8 @@ use Prim.Native.Nat.{◌-◌}
 use Rattle.film_cursor.proofs.Cursors.{TestedTo}
 use Rattle.film_cursor.proofs.test_band.Given as goal
 
-abbrev pub invariant-loop-step : goal.invariant-loop-step
-invariant-loop-step l = TestedTo l.sheet l.load l.from l.end l.c
+abbrev pub invariant-loop-c : goal.invariant-loop-c
+invariant-loop-c l = TestedTo l.sheet l.load l.from l.end (record { at = l.c.0; least = l.c.1.0; colour = l.c.1.1.0 })
 
-abbrev pub decreases-loop-step : goal.decreases-loop-step
-decreases-loop-step l = l.end - l.c.at
+abbrev pub decreases-loop-c : goal.decreases-loop-c
+decreases-loop-c l = l.end - l.c.0
