@@ -16,13 +16,13 @@ use Rattle.truth.proofs.Tests.{Is, leb_is, ltb_is, and_is, is_same}
 use Rattle.film_words.specs.Words.{at}
 use Rattle.film_words.specs.Arrays.{samples_in}
 use Rattle.film_commands.specs.Band.{Colour}
+use Rattle.film_commands.specs.Code.{colour_of}
+use Rattle.film_commands.specs.declared.Colour as code
+use Rattle.film_commands.specs.declared.Colour.TheVariants.{Solid}
 use Rattle.film_herald.specs.Herald.{Window}
 use Rattle.film_imaging.specs.Masks.{sample}
 use Rattle.film_imaging.specs.Colours.{painted}
-use Rattle.film_paint.specs.Inks.{colour_in}
 use Rattle.film_paint.specs.Rows.{painted_line}
-use Rattle.film_paint.specs.declared.Ink.{Ink}
-use Rattle.film_paint.specs.declared.Ink.TheVariants.{Solid}
 use Rattle.film_paint.proofs.Samples.{past_dots}
 use Rattle.film_paint.proofs.Painting.{painted_off, solid-painted}
 
@@ -125,12 +125,12 @@ line_clipped n w from to first end C s d row a b =
     (λ p. omega arith) (λ p. omega arith))
 
 -- filled with a solid colour, it is painted
-pub line_filled : (n left from to : ℕ) (ink : Ink) (s : ℕ) (v : Bool) (d : ℕ → Bool) (row : List ℕ) → ink ≡ Solid v
-    → row ≡ row_of n (filled from to v d) → row ≡ row_of n (λ j. painted (colour_in ink) s (left + j) (stretch from to j) (d j))
+pub line_filled : (n left from to : ℕ) (C : code.Colour) (s : ℕ) (v : Bool) (d : ℕ → Bool) (row : List ℕ) → C ≡ Solid v
+    → row ≡ row_of n (filled from to v d) → row ≡ row_of n (λ j. painted (colour_of C) s (left + j) (stretch from to j) (d j))
 unfolding filled
-line_filled n left from to ink s v d row h e =
-    e ∙ row_of-same n (filled from to v d) (λ j. painted (colour_in ink) s (left + j) (stretch from to j) (d j))
-    (λ j l. solid-painted ink s (left + j) v (stretch from to j) (d j) h)
+line_filled n left from to C s v d row h e =
+    e ∙ row_of-same n (filled from to v d) (λ j. painted (colour_of C) s (left + j) (stretch from to j) (d j))
+    (λ j l. solid-painted C s (left + j) v (stretch from to j) (d j) h)
 
 -- painted dot by dot with a mask that has every dot
 pub line_dotted : (n left from to : ℕ) (C : Colour) (s : ℕ) (d : ℕ → Bool) (row : List ℕ)

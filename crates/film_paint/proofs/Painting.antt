@@ -5,7 +5,6 @@ use mathlib.Core.List.{List}
 use Prim.Native.Nat.{ℕ}
 use native.Mathlib.Decide.{ℕ_discrete}
 use borrow.Author.Tests.{eq-eqb, ne_eqb}
-use denote.Ref.{Bor}
 use lib.Dec.{eqb}
 use lib.ListN.{length}
 use Rattle.row.specs.Dots.{dot_at, row_of}
@@ -14,10 +13,11 @@ use Rattle.row.proofs.Dots.{Bytes, row_is}
 use Rattle.film_words.specs.Words.{words}
 use Rattle.film_words.specs.Arrays.{tile_in}
 use Rattle.film_commands.specs.Band.{Colour, solid, tiled}
+use Rattle.film_commands.specs.Code.{colour_of}
+use Rattle.film_commands.specs.declared.Tile as code-tile
+use Rattle.film_commands.specs.declared.Colour as code
+use Rattle.film_commands.specs.declared.Colour.TheVariants.{Solid, Tile}
 use Rattle.film_imaging.specs.Colours.{tile_dot, painted}
-use Rattle.film_paint.specs.Inks.{colour_in}
-use Rattle.film_paint.specs.declared.Ink.{Ink}
-use Rattle.film_paint.specs.declared.Ink.TheVariants.{Solid, Tile}
 
 -- off the mask a dot stays
 pub painted_off : (C : Colour) (s f : ℕ) (I : Bool) → painted C s f false I ≡ I
@@ -36,41 +36,35 @@ painted_twice (tiled false a ws) s f true true I = simp (and-false, and-true)
 painted_twice (tiled true a ws) s f true true I = simp (and-true, or_assoc, or_self)
 
 -- a solid colour
-pub solid-painted : (ink : Ink) (s f : ℕ) (v M I : Bool) → ink ≡ Solid v → cond M v I ≡ painted (colour_in ink) s f M I
-unfolding painted colour_in
-solid-painted ink s f v true I e = rw e (simp (and-false, and-true))
-solid-painted ink s f v false I e = sym (painted_off (colour_in ink) s f I)
-
--- the address of a tile is not looked at
-pub any_address : (t : Bool) (a b : ℕ) (ws : List ℕ) (s f : ℕ) (M I : Bool) → painted (tiled t a ws) s f M I ≡ painted (tiled t b ws) s f M I
-unfolding painted
-any_address false a b ws s f M I = refl
-any_address true a b ws s f M I = refl
+pub solid-painted : (C : code.Colour) (s f : ℕ) (v M I : Bool) → C ≡ Solid v → cond M v I ≡ painted (colour_of C) s f M I
+unfolding painted colour_of
+solid-painted C s f v true I e = rw e (simp (and-false, and-true))
+solid-painted C s f v false I e = sym (painted_off (colour_of C) s f I)
 
 -- ---- what the code writes on the mask
 
-pub solid_dot : (ink : Ink) (s f : ℕ) (I v : Bool) → ink ≡ Solid v → v ≡ painted (colour_in ink) s f true I
-solid_dot ink s f I v e = solid-painted ink s f v true I e
+pub solid_dot : (C : code.Colour) (s f : ℕ) (I v : Bool) → C ≡ Solid v → v ≡ painted (colour_of C) s f true I
+solid_dot C s f I v e = solid-painted C s f v true I e
 
 -- where a tile is 1
-one_dot : (t : Bool) (ws : List ℕ) (s f : ℕ) (I : Bool) → tile_dot (tile_in ws) s f ≡ true → true ≡ painted (tiled t 0 ws) s f true I
+one_dot : (t : Bool) (a : ℕ) (ws : List ℕ) (s f : ℕ) (I : Bool) → tile_dot (tile_in ws) s f ≡ true → true ≡ painted (tiled t a ws) s f true I
 unfolding painted
-one_dot false ws s f I e = rw e (simp or-true)
-one_dot true ws s f I e = rw e (simp or-true)
+one_dot false a ws s f I e = rw e (simp or-true)
+one_dot true a ws s f I e = rw e (simp or-true)
 
 -- in a tile; c is its dot
-module _ (ink : Ink) (s f : ℕ) (I t c : Bool) (tile : Bor (List ℕ)) (is : ink ≡ Tile t tile) (d : c ≡ tile_dot (tile_in (words tile.now)) s f) where
-  pub ink_dot : c ≡ true → c ≡ painted (colour_in ink) s f true I
-  unfolding colour_in
-  ink_dot o = rw is (o ∙ one_dot t (words tile.now) s f I (sym d ∙ o))
+module _ (C : code.Colour) (s f : ℕ) (I c : Bool) (t : code-tile.Tile) (is : C ≡ Tile t) (d : c ≡ tile_dot (tile_in (words t.words.now)) s f) where
+  pub ink_dot : c ≡ true → c ≡ painted (colour_of C) s f true I
+  unfolding colour_of
+  ink_dot o = rw is (o ∙ one_dot t.transparent t.address (words t.words.now) s f I (sym d ∙ o))
 
-  pub opaque_dot : t ≡ false → c ≡ painted (colour_in ink) s f true I
-  unfolding painted colour_in
+  pub opaque_dot : t.transparent ≡ false → c ≡ painted (colour_of C) s f true I
+  unfolding painted colour_of
   opaque_dot e = rw (is, e, ← d) (simp (and-false, and-true))
 
   -- where a transparent tile is 0 the dot stays
-  pub keep_dot : t ≡ true → c ≡ false → I ≡ painted (colour_in ink) s f true I
-  unfolding painted colour_in
+  pub keep_dot : t.transparent ≡ true → c ≡ false → I ≡ painted (colour_of C) s f true I
+  unfolding painted colour_of
   keep_dot e o = rw (is, e, ← d, o) (simp or-false)
 
 -- ---- the row, when its dot j was written, and when it stays

@@ -6,12 +6,14 @@ ghost use Rattle.row.specs.Dots.{dot_at, row_of};
 ghost use Rattle.row.specs.Stretches.{with_dot};
 ghost use Rattle.film_words.specs.Words.{words};
 ghost use Rattle.film_words.specs.Arrays.{samples_in, tile_in};
+ghost use Rattle.film_commands.specs.Code.{colour_of};
 ghost use Rattle.film_herald.specs.Herald.{row_length};
 ghost use Rattle.film_imaging.specs.Masks.{sample};
 ghost use Rattle.film_imaging.specs.Colours.{tile_dot, painted};
 ghost use Rattle.film_paint.specs.Rows.{window_of, painted_row};
-ghost use Rattle.film_paint.specs.Inks.{colour_in, Takes, Tells};
+ghost use Rattle.film_paint.specs.Loops.{Takes, Tells};
 
+use film_commands::Colour;
 use film_herald::row_bytes;
 use film_words::word;
 use row::{fill, set_dot};
@@ -32,13 +34,6 @@ impl Frame {
     {
         self.rows as usize * row_bytes(self.width)
     }
-}
-
-// What a mask is painted with: a solid colour, or a tile by its words.
-#[derive(Clone, Copy)]
-pub enum Ink<'a> {
-    Solid(bool),
-    Tile { transparent: bool, tile: &'a [u8] },
 }
 
 // Dot j of line i of the sample array at place `at` of the file.
@@ -73,15 +68,15 @@ fn tile_dot(tile: &[u8], s: u32, f: usize) -> bool
 }
 
 // Paints dot f of line s, which is dot j of the row.
-fn paint_dot(row: &mut [u8], j: usize, s: u32, f: usize, ink: Ink)
-    ensures { row.new ≡ row_of (length row.old) (with_dot j (painted (colour_in ink.entry) s f true (dot_at row.old j)) (dot_at row.old)) }
+fn paint_dot(row: &mut [u8], j: usize, s: u32, f: usize, colour: Colour)
+    ensures { row.new ≡ row_of (length row.old) (with_dot j (painted (colour_of colour.entry) s f true (dot_at row.old j)) (dot_at row.old)) }
 {
-    match ink {
-        Ink::Solid(v) => set_dot(row, j, v),
-        Ink::Tile { transparent, tile } => {
-            let c = tile_dot(tile, s, f);
+    match colour {
+        Colour::Solid(v) => set_dot(row, j, v),
+        Colour::Tile(t) => {
+            let c = tile_dot(t.words, s, f);
             // Where it is 0, a transparent tile leaves the dot.
-            if c || !transparent {
+            if c || !t.transparent {
                 set_dot(row, j, c);
             }
         }
@@ -96,31 +91,31 @@ fn paint_dots<F: Fn(usize) -> bool>(
     s: u32,
     from: usize,
     to: usize,
-    ink: Ink,
+    colour: Colour,
     mask: F,
 )
     requires { (to < 2 ^ 32) × Takes left from to (F.pre mask) }
-    ensures { (M : ℕ → Bool) → Tells left from to (F.post mask) M → row.new ≡ row_of (length row.old) (λ j. painted (colour_in ink.entry) s (left + j) (leb from j && ltb j to && M (left + j)) (dot_at row.old j)) }
+    ensures { (M : ℕ → Bool) → Tells left from to (F.post mask) M → row.new ≡ row_of (length row.old) (λ j. painted (colour_of colour.entry) s (left + j) (leb from j && ltb j to && M (left + j)) (dot_at row.old j)) }
 {
     for j in from..to {
         let f = left as usize + j;
         if mask(f) {
-            paint_dot(row, j, s, f, ink);
+            paint_dot(row, j, s, f, colour);
         }
     }
 }
 
 // Inks the stretch of the film from dot `from` up to, not including, `to` into the row of line s.
-pub fn ink_stretch(row: &mut [u8], frame: Frame, s: u32, from: usize, to: usize, ink: Ink)
-    ensures { row.new ≡ painted_row (window_of frame) (colour_in ink.entry) s (λ f. leb from f && ltb f to) row.old }
+pub fn ink_stretch(row: &mut [u8], frame: Frame, s: u32, from: usize, to: usize, colour: Colour)
+    ensures { row.new ≡ painted_row (window_of frame) (colour_of colour.entry) s (λ f. leb from f && ltb f to) row.old }
 {
     let left = frame.left as usize;
     let first = from.saturating_sub(left);
     let last = to.saturating_sub(left);
     let end = last.min(frame.width as usize);
-    match ink {
-        Ink::Solid(v) => fill(row, first, end, v),
-        Ink::Tile { .. } => paint_dots(row, frame.left, s, first, end, ink, |_| true),
+    match colour {
+        Colour::Solid(v) => fill(row, first, end, v),
+        Colour::Tile(_) => paint_dots(row, frame.left, s, first, end, colour, |_| true),
     }
 }
 
@@ -132,9 +127,9 @@ pub fn ink_samples(
     i: usize,
     f_min: u16,
     array: &[u8],
-    ink: Ink,
+    colour: Colour,
 )
-    ensures { row.new ≡ painted_row (window_of frame) (colour_in ink.entry) s (λ f. leb f_min f && sample (samples_in (words array.now)) i (f - f_min)) row.old }
+    ensures { row.new ≡ painted_row (window_of frame) (colour_of colour.entry) s (λ f. leb f_min f && sample (samples_in (words array.now)) i (f - f_min)) row.old }
 {
     let left = frame.left as usize;
     let from = f_min as usize;
@@ -142,5 +137,5 @@ pub fn ink_samples(
     let last = (from + word(array, 1) as usize).saturating_sub(left);
     let end = last.min(frame.width as usize);
     let mask = |f| sample_dot(array, 0, i, f - from);
-    paint_dots(row, frame.left, s, first, end, ink, mask);
+    paint_dots(row, frame.left, s, first, end, colour, mask);
 }

@@ -1,14 +1,5 @@
--- What the code's inks stand for, and what the loop over a row's dots asks of the mask that it is given.
+-- What the loop over a row's dots asks of the mask that it is given.
 use Rattle.std.specs.Prelude.{◌≡◌, Bool, ℕ, ◌+◌, ◌<◌, ◌≤◌}
-use Rattle.film_words.specs.Words.{words}
-use Rattle.film_commands.specs.Band.{Colour, solid, tiled}
-use Rattle.film_paint.specs.declared.Ink.{Ink}
-use Rattle.film_paint.specs.declared.Ink.TheVariants.{Solid, Tile}
-
--- the colour that an ink stands for; the address of a tile is not looked at when it is painted
-unfoldable pub colour_in : Ink → Colour
-colour_in (Solid v) = solid v
-colour_in (Tile transparent tile) = tiled transparent 0 (words tile.now)
 
 -- a mask may be asked for the dots from `from` up to, not including, `to` of a row whose first dot is dot `left` of the film
 abbrev pub Takes : (left from to : ℕ) → (may : ℕ → Type 0) → Type 0
