@@ -71,14 +71,6 @@ module _ (w : Window) (first rows : ℕ) (C : Colour) where
       ap (λ (d : ℕ → Bool). cond (leb (rows * row_length w.f_size) (length buf)) (row_of (length buf) d) buf)
       (fun_ext (λ g. dot_same M N (dot_at buf) g h))
 
-  -- a colour that paints each dot the same gives the same buffer
-  pub band_alike : (D : Colour) → ((s f : ℕ) (M I : Bool) → painted C s f M I ≡ painted D s f M I) → (M : Film) (buf : List ℕ)
-      → band M buf ≡ painted_band w first rows D M buf
-  unfolding painted_band painted_dot
-  band_alike D alike M buf =
-      ap (λ (d : ℕ → Bool). cond (leb (rows * row_length w.f_size) (length buf)) (row_of (length buf) d) buf)
-      (fun_ext (λ g. let n = 8 * row_length w.f_size in alike (first + g / n) (w.f_min + g % n) _ (dot_at buf g)))
-
   -- a mask without dots on the band leaves the buffer
   pub band_none : (M : Film) (buf : List ℕ) → Bytes buf → Same first rows M (λ s f. false) → band M buf ≡ buf
   unfolding painted_band painted_dot

@@ -8,7 +8,7 @@ use borrow.Author.Tests.{ltb-true, leb-true, ltb-false, leb-false}
 use lib.Dec.{leb, ltb, eqb}
 use Rattle.film_words.specs.Words.{words, at}
 use Rattle.film_words.proofs.Words.{length-words}
-use Rattle.film_paint.specs.Inks.{colour_in}
+use Rattle.film_commands.specs.Code.{colour_of}
 use Rattle.film_masks.specs.Bands.{painted_frame}
 use Rattle.film_masks.proofs.Runs.{walked-first, run_above, walked_last, walked_next, walked-done, walked_short, walked_below, walked-length}
 use Rattle.film_masks.proofs.ink_runs.Goals as goal
@@ -22,7 +22,7 @@ inked : (c : goal.Then-w-ge32768)
     → let a = c.args in
     let f = at (words a.group.now) c.loop-lines.q in
     c.if-s-top.buf
-    ≡ painted_frame a.frame (colour_in a.ink) (λ t g. eqb t c.loop-lines.s && (leb f g && ltb g (f + c.word-w.result % 32768)))
+    ≡ painted_frame a.frame (colour_of a.colour) (λ t g. eqb t c.loop-lines.s && (leb f g && ltb g (f + c.word-w.result % 32768)))
     c.loop-lines.buf
 inked c =
     elim c.if-s-top.branch [
@@ -35,7 +35,7 @@ inked-2 : (c : goal.Else-w-ge32768)
     → let a = c.args in
     let f = at (words a.group.now) c.loop-lines.q in
     c.if-s-top.buf
-    ≡ painted_frame a.frame (colour_in a.ink) (λ t g. eqb t c.loop-lines.s && (leb f g && ltb g (f + c.word-w.result % 32768)))
+    ≡ painted_frame a.frame (colour_of a.colour) (λ t g. eqb t c.loop-lines.s && (leb f g && ltb g (f + c.word-w.result % 32768)))
     c.loop-lines.buf
 inked-2 c =
     elim c.if-s-top.branch [
