@@ -193,15 +193,15 @@ module _ {frame : Frame} {sheet load : List ℕ} {b e : ℕ} {cleared buf : List
 
   -- a mask was painted
   pub inked_paint : {buf' : List ℕ} (m : code-mask.Mask) (p : ℕ) → r ≡ Ok (Some (step.Paint m p))
-      → buf' ≡ painted_frame frame (colour_of load c.colour) (masked (mask_of sheet load m)) buf → Inked frame sheet load b e cleared buf' (moved_to p c)
+      → buf' ≡ painted_frame frame (colour_of c.colour) (masked (mask_of m)) buf → Inked frame sheet load b e cleared buf' (moved_to p c)
   unfolding ink_out
   inked_paint m p q paints =
-      let M = masked (mask_of sheet load m) in
-      let every : M ≡ covers (stroke c.at c.least (colour_of load c.colour) (mask_of sheet load m)) =
+      let M = masked (mask_of m) in
+      let every : M ≡ covers (stroke c.at c.least (colour_of c.colour) (mask_of m)) =
       fun_ext (λ s. fun_ext (λ f. sym (ap (λ (t : Bool). t && M s f) (leb-zero s)))) in
       record {
         is =
-            ap (ink_out frame (ahead_of sheet load e (moved_to p c)).strokes) (paints ∙ ap (λ (N : Film). painted_frame frame (colour_of load c.colour) N buf) every)
+            ap (ink_out frame (ahead_of sheet load e (moved_to p c)).strokes) (paints ∙ ap (λ (N : Film). painted_frame frame (colour_of c.colour) N buf) every)
             ∙ onto (Ok (Some (step.Paint m p))) q;
       }
 

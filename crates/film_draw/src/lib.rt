@@ -53,11 +53,14 @@ fn ink_band<'a>(
     let size = frame.size();
     clear(&mut buf[..size]);
     let mut c = start(from);
-    // A refusal ends the band as its end does.
-    while let Some(step) = advance(sheet, load, end, c).unwrap_or(None) {
+    // A refusal ends the band as its end does. No `while let`: the check does not cover one over a value that holds a reference.
+    loop {
+        let Some(step) = advance(sheet, load, end, c).unwrap_or(None) else {
+            return;
+        };
         c = match step {
             Step::Paint(m, at) => {
-                ink_mask(buf, frame, sheet, load, c.colour, m);
+                ink_mask(buf, frame, c.colour, m);
                 Cursor { at, ..c }
             }
             Step::Other(d) => d,

@@ -30,8 +30,8 @@ loop-step-preserved c =
     let is : c.advance.result ≡ Ok (Some (Other c.in-Other.d)) = stepped _ _ (sym c.unwrap_or.ensures ∙ c.in-Some.is ∙ ap (λ s. Some s) c.in-Other.is) in
     inked_other c.loop-step.invariant c.advance.ensures _ is
 
-pub returns : goal.returns
-returns c =
+pub returns-in_default : goal.returns-in_default
+returns-in_default c =
     let a = c.args in
     inked_end c.loop-step.invariant c.advance.ensures (sym c.unwrap_or.ensures ∙ c.in_default.is)
     ∙ ink_cleared a.frame a.buf.now c.requires (band_strokes a.sheet.now a.load.now a.from a.end) _ _ (λ i. search rules) c.size-size.ensures c.clear.ensures

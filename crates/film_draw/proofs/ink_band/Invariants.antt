@@ -5,7 +5,7 @@ use Rattle.film_draw.proofs.Inking.{Inked}
 use Rattle.film_draw.proofs.ink_band.Given as goal
 
 abbrev pub invariant-loop-step : goal.invariant-loop-step
-invariant-loop-step l = Inked l.frame l.sheet l.load l.from l.end l.initial.buf l.buf l.c
+invariant-loop-step l = Inked l.frame l.sheet l.load l.from l.end l.initial.buf l.buf (record { at = l.c.0; least = l.c.1.0; colour = l.c.1.1.0 })
 
 abbrev pub decreases-loop-step : goal.decreases-loop-step
-decreases-loop-step l = l.end - l.c.at
+decreases-loop-step l = l.end - l.c.0
