@@ -1,15 +1,12 @@
 -- What draw's private functions need and leave.
 use Rattle.std.specs.Prelude.{◌≡◌, Result, List, ◌++◌, ℕ, ◌*◌, ◌≤◌, ◌<◌, length, drop}
-use Rattle.refusal.specs.Answers.{and_then}
 use Rattle.refusal.specs.declared.Refusal.{Refusal}
 use Rattle.row.specs.Counts.{joined}
 use Rattle.film_words.specs.Words.{words}
 use Rattle.film_words.specs.Load.{load_words}
 use Rattle.film_commands.specs.Band.{Stroke}
-use Rattle.film_herald.specs.Herald.{herald_of, band_count, band_start, band_rows, row_length}
-use Rattle.film_layout.specs.Layout.{Span, reach}
-use Rattle.film_layout.specs.Walks.{to_come, span_of}
-use Rattle.film_layout.specs.declared.Walk.{Walk}
+use Rattle.film_herald.specs.Herald.{herald_of, band_start, band_rows, row_length}
+use Rattle.film_layout.specs.Layout.{Span}
 use Rattle.film_imaging.specs.Pictures.{rows_of}
 use Rattle.film_paint.specs.Rows.{window_of}
 use Rattle.film_paint.specs.declared.Frame.{Frame}
@@ -35,14 +32,6 @@ inked_with frame ks held = joined (rows_of (window_of frame) frame.top frame.row
 -- the answer that is due for a band, by its words
 abbrev pub drawn_by : Frame → (load : List ℕ) → Span → DrawAnswer
 drawn_by frame load x = draw_rows (window_of frame) frame.top frame.rows (load_words load) x
-
--- for the band whose commands stand from one place up to another
-abbrev pub drawn_in : Frame → (sheet load : List ℕ) (from to : ℕ) → DrawAnswer
-drawn_in frame sheet load from to = drawn_by frame load (span_of sheet from to)
-
--- for band b of those that are to come at a walk before the next page
-abbrev pub drawn_from : Frame → (sheet load : List ℕ) → Walk → (b : ℕ) → DrawAnswer
-drawn_from frame sheet load w b = and_then (reach b (to_come sheet (band_count (herald_of (words sheet))) w)) (drawn_by frame load)
 
 -- where the answer a is due, the code answers r and leaves `left` in the buffer, which held `held`
 pub record Answered (a : DrawAnswer) (held : List ℕ) (r : Result Drawn Refusal) (left : List ℕ) : Type 0 where

@@ -196,7 +196,8 @@ fn read_page<'a>(
     }
 }
 
-// Writes behind the first `at` bytes of the job, and answers how many are written then.
+// Writes behind the first `at` bytes of the job, and answers how many are written then. `min`: no clause of
+// the closure says that its answer is within its output.
 fn then<F: FnOnce(&mut [u8]) -> Result<usize, Refusal>>(
     job: &mut [u8],
     at: usize,
@@ -303,6 +304,7 @@ fn run_case(rt: &impl Print, fields: &[&[u8]]) -> io::Result<()> {
 // Runs a line that begins with a name.
 fn run_fields(rt: &impl Print, line: &[u8]) -> io::Result<()> {
     let mut fields: [&[u8]; FIELDS] = [b""; FIELDS];
+    // An index: a reference is not stored in an array behind iter_mut.
     for (i, field) in line.split(|b| *b == b' ').enumerate() {
         if i < FIELDS {
             fields[i] = field;
