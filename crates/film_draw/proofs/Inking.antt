@@ -219,6 +219,11 @@ module _ {frame : Frame} {sheet load : List ℕ} {b e : ℕ} {cleared buf : List
       go (Ok (Some s)) h q = absurd (cc)
       go (Err v) h q = onto (Err v) h
 
+  -- a command is refused
+  pub inked-refused : (v : Refusal) → r ≡ Err v → buf ≡ ink_out frame (band_strokes sheet load b e) cleared
+  unfolding ink_out
+  inked-refused v q = onto (Err v) q
+
 -- a step that is no refusal
 pub stepped : (r : Result (Option Step) Refusal) (s : Step) → result_unwrap_or r None ≡ Some s → r ≡ Ok (Some s)
 stepped (Ok o) s q = ap Ok q

@@ -87,6 +87,18 @@ module _ {v : Frame} {C : Colour} {M : Film} {m e : ℕ} {buf₀ : List ℕ} whe
               (λ t f a b. line_then M s t f);
         }
 
+    -- line s has been painted in the buffer
+    pub lined_next : {buf' : List ℕ} (L : ℕ → Bool) → ((f : ℕ) → M s f ≡ L f) → buf' ≡ painted_frame v C (λ t f. eqb t s && L f) buf
+        → Lined v C M m e buf₀ buf' (s + 1)
+    lined_next L same p =
+        record {
+          off = w.off;
+          since = omega (arith, w.since);
+          left =
+              left_next (λ t f. eqb t s && L f) w.left p
+              (λ t f a b. line_then M s t f ∙ ap (λ (x : Bool). (eqb t s && x) || lines_from M (s + 1) t f) (same f));
+        }
+
     -- the mask or the band ends before line s
     pub lined_done : min e (v.top + v.rows) ≤ s → buf ≡ painted_frame v C M buf₀
     lined_done h = left_none w.left (λ t f a b. go t f b (dec_lt t s))
@@ -95,6 +107,10 @@ module _ {v : Frame} {C : Colour} {M : Film} {m e : ℕ} {buf₀ : List ℕ} whe
         go t f b (yes l) = rw (lt-leb s t l) refl
         go t f b (no l) = rw (w.off t f (λ p q. omega arith)) (and-false (leb s t))
 
+    -- the band ends before it
+    pub lined_below : v.top + v.rows ≤ s → buf ≡ painted_frame v C M buf₀
+    lined_below h = lined_done (omega arith)
+
 -- ---- rows, for each kind of mask
 
 -- a mask has no dot off its lines
@@ -102,7 +118,7 @@ off_lines : (M : Film) (m n : ℕ) → ((t f : ℕ) → within m n t ≡ false �
 off_lines M m n off t f h = off t f (is_false (within m n t) (within_is m n t) (λ p. h p.0 p.1))
 
 -- of a sample array, whose first word counts its lines
-samples_off : (s_min f_min : ℕ) (ws : List ℕ) (s f : ℕ) → within s_min (at ws 0) s ≡ false → masked (samples s_min f_min ws) s f ≡ false
+pub samples_off : (s_min f_min : ℕ) (ws : List ℕ) (s f : ℕ) → within s_min (at ws 0) s ≡ false → masked (samples s_min f_min ws) s f ≡ false
 unfolding masked sample samples_in within
 samples_off s_min f_min ws s f h = go (leb s_min s) refl
   where
@@ -112,7 +128,26 @@ samples_off s_min f_min ws s f h = go (leb s_min s) refl
         let l : at ws 0 ≤ s - s_min = omega (arith, ltb-false s (s_min + at ws 0) (rw e at h)) in
         rw (e, le-ltb (s - s_min) (at ws 0) l) (and-false (leb f_min f))
 
--- its line s is painted by its dots L there
+-- a rectangle's dots on a line are those between its columns
+pub rectangle_dots : (s_min s_size f_min f_size s : ℕ) → within s_min s_size s ≡ true
+    → (f : ℕ) → masked (rectangle s_min s_size f_min f_size) s f ≡ (leb f_min f && ltb f (f_min + f_size))
+unfolding masked within
+rectangle_dots s_min s_size f_min f_size s h f = rw h refl
+
+-- a trapezoid's are those between its two edges rounded up
+pub trapezoid_dots : (s_min s_size f_min f_size f_min_last f_size_last s : ℕ) {from to : ℕ} → within s_min s_size s ≡ true
+    → edge_at f_min f_min_last (s_size - 1) (s - s_min) ≡ pos from → edge_at (f_min + f_size) (f_min_last + f_size_last) (s_size - 1) (s - s_min) ≡ pos to
+    → (f : ℕ) → masked (trapezoid s_min s_size f_min f_size f_min_last f_size_last) s f ≡ (leb from f && ltb f to)
+trapezoid_dots s_min s_size f_min f_size f_min_last f_size_last s h b t f =
+    trapezoid_line s_min s_size f_min f_size f_min_last f_size_last s f h ∙ ap₂ (λ (x y : ℤ). le_z x (pos f) && lt_z (pos f) y) b t
+
+-- an array's are its samples, from s_min and f_min on
+pub samples_dots : (s_min f_min : ℕ) (ws : List ℕ) (s : ℕ) → s_min ≤ s
+    → (f : ℕ) → masked (samples s_min f_min ws) s f ≡ (leb f_min f && sample (samples_in ws) (s - s_min) (f - f_min))
+unfolding masked
+samples_dots s_min f_min ws s h f = rw (le-leb s_min s h) refl
+
+-- line s of a mask is painted by its dots L there
 row_same : (w : Window) (C : Colour) (M : Film) (s : ℕ) (L : ℕ → Bool) (row row' : List ℕ) → ((f : ℕ) → M s f ≡ L f)
     → row' ≡ painted_row w C s L row → row' ≡ painted_row w C s (M s) row
 row_same w C M s L row row' same e = e ∙ ap (λ (L : ℕ → Bool). painted_row w C s L row) (fun_ext (λ f. sym (same f)))
@@ -124,9 +159,7 @@ pub trapezoid_row : (v : Frame) (C : Colour) (s_min s_size f_min f_size f_min_la
     → row' ≡ painted_row (window_of v) C s (masked (trapezoid s_min s_size f_min f_size f_min_last f_size_last) s) row
 trapezoid_row v C s_min s_size f_min f_size f_min_last f_size_last s from to row row' a b x y =
     row_same (window_of v) C (masked (trapezoid s_min s_size f_min f_size f_min_last f_size_last)) s (λ f. leb from f && ltb f to) row row'
-    (λ f.
-    trapezoid_line s_min s_size f_min f_size f_min_last f_size_last s f ((within_is s_min s_size s).said (a, b))
-    ∙ ap₂ (λ (p q : ℤ). le_z p (pos f) && lt_z (pos f) q) x y)
+    (trapezoid_dots s_min s_size f_min f_size f_min_last f_size_last s ((within_is s_min s_size s).said (a, b)) x y)
 
 module _ {v : Frame} {C : Colour} {inks : MutBor (List ℕ) → ℕ → ⊤ → MutBor (List ℕ) → Type 0} where
   -- a rectangle's dots are those between its columns
@@ -140,7 +173,7 @@ module _ {v : Frame} {C : Colour} {inks : MutBor (List ℕ) → ℕ → ⊤ → 
         off = off_lines M s_min s_size (rectangle_off s_min s_size f_min f_size);
         on = λ row row' s a b e.
             row_same (window_of v) C M s (λ f. leb f_min f && ltb f (f_min + f_size)) row.now row'.now
-            (λ f. rw ((within_is s_min s_size s).said (a, b)) refl) (rows row row' s e);
+            (rectangle_dots s_min s_size f_min f_size s ((within_is s_min s_size s).said (a, b))) (rows row row' s e);
       }
 
   -- a trapezoid's are those of its lines
@@ -164,5 +197,5 @@ module _ {v : Frame} {C : Colour} {inks : MutBor (List ℕ) → ℕ → ⊤ → 
         off = off_lines M s_min n (λ s f h. samples_off s_min f_min ws s f (rw e at h));
         on = λ row row' s a b i.
             row_same (window_of v) C M s (λ f. leb f_min f && sample (samples_in ws) (s - s_min) (f - f_min)) row.now row'.now
-            (λ f. rw (le-leb s_min s a) refl) (rows row row' s i);
+            (samples_dots s_min f_min ws s a) (rows row row' s i);
       }

@@ -13,18 +13,19 @@ use Rattle.row.specs.Dots.{dot_at, row_of}
 use Rattle.row.specs.Stretches.{with_dot, filled}
 use Rattle.row.proofs.Dots.{Bytes, row_is, row_of-same, dot_row_of, length_is}
 use Rattle.truth.proofs.Tests.{Is, leb_is, ltb_is, and_is, is_same}
-use Rattle.film_words.specs.Words.{at}
+use Rattle.film_words.specs.Words.{words, at}
 use Rattle.film_words.specs.Arrays.{samples_in}
-use Rattle.film_commands.specs.Band.{Colour}
+use Rattle.film_commands.specs.Band.{Colour, tiled}
 use Rattle.film_commands.specs.Code.{colour_of}
+use Rattle.film_commands.specs.declared.Tile as code-tile
 use Rattle.film_commands.specs.declared.Colour as code
-use Rattle.film_commands.specs.declared.Colour.TheVariants.{Solid}
+use Rattle.film_commands.specs.declared.Colour.TheVariants.{Solid, Tile}
 use Rattle.film_herald.specs.Herald.{Window}
 use Rattle.film_imaging.specs.Masks.{sample}
 use Rattle.film_imaging.specs.Colours.{painted}
 use Rattle.film_paint.specs.Rows.{painted_line}
 use Rattle.film_paint.proofs.Samples.{past_dots}
-use Rattle.film_paint.proofs.Painting.{painted_off, solid-painted}
+use Rattle.film_paint.proofs.Painting.{painted_off, solid-painted, tile-painted}
 
 -- a mask without dots leaves the row
 pub line_empty : (w : Window) (C : Colour) (s : ℕ) (M : ℕ → Bool) (row : List ℕ) → Bytes row → ((f : ℕ) → M f ≡ false)
@@ -131,6 +132,15 @@ unfolding filled
 line_filled n left from to C s v d row h e =
     e ∙ row_of-same n (filled from to v d) (λ j. painted (colour_of C) s (left + j) (stretch from to j) (d j))
     (λ j l. solid-painted C s (left + j) v (stretch from to j) (d j) h)
+
+-- painted with a tile, it is painted
+pub line_tiled : (n left from to : ℕ) (C : code.Colour) (s : ℕ) (t : code-tile.Tile) (d : ℕ → Bool) (row : List ℕ)
+    → C ≡ Tile t → row ≡ row_of n (λ j. painted (tiled t.transparent 0 (words t.words.now)) s (left + j) (stretch from to j) (d j))
+    → row ≡ row_of n (λ j. painted (colour_of C) s (left + j) (stretch from to j) (d j))
+line_tiled n left from to C s t d row h e =
+    e ∙ row_of-same n (λ j. painted (tiled t.transparent 0 (words t.words.now)) s (left + j) (stretch from to j) (d j))
+    (λ j. painted (colour_of C) s (left + j) (stretch from to j) (d j))
+    (λ j l. tile-painted C s (left + j) t (stretch from to j) (d j) h)
 
 -- painted dot by dot with a mask that has every dot
 pub line_dotted : (n left from to : ℕ) (C : Colour) (s : ℕ) (d : ℕ → Bool) (row : List ℕ)

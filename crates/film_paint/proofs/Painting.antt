@@ -41,6 +41,18 @@ unfolding painted colour_of
 solid-painted C s f v true I e = rw e (simp (and-false, and-true))
 solid-painted C s f v false I e = sym (painted_off (colour_of C) s f I)
 
+-- the address of a tile is not looked at
+pub any_address : (t : Bool) (a b : ℕ) (ws : List ℕ) (s f : ℕ) (M I : Bool) → painted (tiled t a ws) s f M I ≡ painted (tiled t b ws) s f M I
+unfolding painted
+any_address false a b ws s f M I = refl
+any_address true a b ws s f M I = refl
+
+-- a tile
+pub tile-painted : (C : code.Colour) (s f : ℕ) (t : code-tile.Tile) (M I : Bool) → C ≡ Tile t
+    → painted (tiled t.transparent 0 (words t.words.now)) s f M I ≡ painted (colour_of C) s f M I
+unfolding colour_of
+tile-painted C s f t M I e = rw e (any_address t.transparent 0 t.address (words t.words.now) s f M I)
+
 -- ---- what the code writes on the mask
 
 pub solid_dot : (C : code.Colour) (s f : ℕ) (I v : Bool) → C ≡ Solid v → v ≡ painted (colour_of C) s f true I
