@@ -4,43 +4,47 @@
 
 ghost use Rattle.std.specs.Prelude.{◌≤◌};
 
-use film_commands::{Colour, File, Mask, Rectangle, Source, Tile, Trapezoid};
+use film_commands::{Colour, Mask, Rectangle, Tile, Trapezoid};
 use film_cursor::{Cursor, Step, advance};
 use film_masks::ink_mask;
 use film_paint::Frame;
 use std::io;
 
-// A sheet's part: at place 0 a run group of three lines, in which two runs of line 0 overlap, the run of line 1 has no dots and that of line 2 goes
-// past the film; at place 9 an array of two lines of 17 dots.
-const SHEET: &[u8] =
-    b"\x00\x03\x00\x01\x00\x03\x00\x02\x80\x04\x00\x09\x80\x00\x00\x0f\x80\x09\x00\x02\x00\x11\xa0\x01\x80\x00\x50\x00\xff\xff";
+// Words of a sheet: a run group of three lines, in which two runs of line 0 overlap, the run of line 1 has no dots and that of line 2 goes past the film;
+// and an array of two lines of 17 dots.
+const GROUP: &[u8] = b"\x00\x03\x00\x01\x00\x03\x00\x02\x80\x04\x00\x09\x80\x00\x00\x0f\x80\x09";
 
-// A load file: at address 0 a tile of one line of two dots, 1 and 0, at 1, 2, one dot further for each line; at 6 a run group of one line; at 9 an array
-// of one line of 4 dots, its padding bits set.
-const LOAD: &[u8] =
-    b"\x00\x0c\x00\x00\x00\x01\x00\x01\x00\x02\x00\x01\x00\x02\x80\x00\x00\x01\x00\x04\x80\x02\x00\x01\x00\x04\xff\xff";
+const ARRAY: &[u8] = b"\x00\x02\x00\x11\xa0\x01\x80\x00\x50\x00\xff\xff";
+
+// Words of a load: a tile of one line of two dots, 1 and 0, at 1, 2, one dot further for each line; a run group of one line; and an array of one line of
+// 4 dots, its padding bits set.
+const TILE: &[u8] = b"\x00\x01\x00\x01\x00\x02\x00\x01\x00\x02\x80\x00";
+
+const LOAD_GROUP: &[u8] = b"\x00\x01\x00\x04\x80\x02";
+
+const LOAD_ARRAY: &[u8] = b"\x00\x01\x00\x04\xff\xff";
 
 const INK: Colour = Colour::Solid(true);
 
 const CLEAR: Colour = Colour::Solid(false);
 
-// The load file's tile, and a range that the load file has not.
+// The load's tile, and one of no words.
 const OPAQUE: Colour = Colour::Tile(Tile {
     transparent: false,
-    from: 2,
-    to: 8,
+    address: 0,
+    words: TILE,
 });
 
 const TRANSPARENT: Colour = Colour::Tile(Tile {
     transparent: true,
-    from: 2,
-    to: 8,
+    address: 0,
+    words: TILE,
 });
 
 const NO_TILE: Colour = Colour::Tile(Tile {
     transparent: false,
-    from: 2,
-    to: 15,
+    address: 0,
+    words: &[],
 });
 
 // Four rows of 16 dots, from the film's first line and dot on.
@@ -59,7 +63,7 @@ const WINDOW: Frame = Frame {
     width: 9,
 };
 
-fn rectangle(s_min: u16, s_size: u16, f_min: u16, f_size: u16) -> Mask {
+fn rectangle(s_min: u16, s_size: u16, f_min: u16, f_size: u16) -> Mask<'static> {
     Mask::Rectangle(Rectangle {
         s_min,
         s_size,
@@ -68,7 +72,13 @@ fn rectangle(s_min: u16, s_size: u16, f_min: u16, f_size: u16) -> Mask {
     })
 }
 
-fn trapezoid(s_size: u16, f_min: u16, f_size: u16, f_min_last: u16, f_size_last: u16) -> Mask {
+fn trapezoid(
+    s_size: u16,
+    f_min: u16,
+    f_size: u16,
+    f_min_last: u16,
+    f_size_last: u16,
+) -> Mask<'static> {
     Mask::Trapezoid(Trapezoid {
         s_min: 0,
         s_size,
@@ -91,7 +101,7 @@ fn case<const N: usize>(
     requires { N ≤ 16 }
 {
     let mut buf = [before; N];
-    ink_mask(&mut buf, frame, SHEET, LOAD, colour, m);
+    ink_mask(&mut buf, frame, colour, m);
     print!(rt; "{name}")?;
     for (i, b) in buf.iter().enumerate() {
         if i % 2 == 0 {
@@ -163,49 +173,25 @@ fn trapezoids(rt: &impl Print) -> io::Result<()> {
     )
 }
 
-fn runs() -> Mask {
+fn runs() -> Mask<'static> {
     Mask::Runs {
         s_min: 1,
-        source: Source {
-            file: File::Sheet,
-            from: 0,
-            to: 9,
-        },
+        group: GROUP,
     }
 }
 
-fn load_runs() -> Mask {
+fn load_runs() -> Mask<'static> {
     Mask::Runs {
         s_min: 2,
-        source: Source {
-            file: File::Load,
-            from: 8,
-            to: 11,
-        },
+        group: LOAD_GROUP,
     }
 }
 
-fn samples(s_min: u16, f_min: u16, to: usize) -> Mask {
+fn samples(s_min: u16, f_min: u16, array: &[u8]) -> Mask {
     Mask::Samples {
         s_min,
         f_min,
-        source: Source {
-            file: File::Sheet,
-            from: 9,
-            to,
-        },
-    }
-}
-
-fn load_samples() -> Mask {
-    Mask::Samples {
-        s_min: 1,
-        f_min: 14,
-        source: Source {
-            file: File::Load,
-            from: 11,
-            to: 14,
-        },
+        array,
     }
 }
 
@@ -213,9 +199,9 @@ fn groups_and_arrays(rt: &impl Print) -> io::Result<()> {
     white(rt, "runs", BAND, INK, runs())?;
     white(rt, "runs-above", Frame { top: 3, ..BAND }, INK, runs())?;
     white(rt, "load-runs", BAND, INK, load_runs())?;
-    white(rt, "samples", BAND, INK, samples(2, 3, 15))?;
-    white(rt, "load-samples", BAND, INK, load_samples())?;
-    white(rt, "no-such-words", BAND, INK, samples(0, 0, 16))
+    white(rt, "samples", BAND, INK, samples(2, 3, ARRAY))?;
+    white(rt, "load-samples", BAND, INK, samples(1, 14, LOAD_ARRAY))?;
+    white(rt, "no-such-words", BAND, INK, samples(0, 0, &[]))
 }
 
 fn tiles(rt: &impl Print) -> io::Result<()> {
@@ -230,17 +216,17 @@ fn tiles(rt: &impl Print) -> io::Result<()> {
     )?;
     black(rt, "opaque-under-mask", BAND, OPAQUE, rectangle(1, 1, 4, 3))?;
     black(rt, "opaque-runs", BAND, OPAQUE, runs())?;
-    black(rt, "opaque-samples", BAND, OPAQUE, samples(2, 4, 15))?;
+    black(rt, "opaque-samples", BAND, OPAQUE, samples(2, 4, ARRAY))?;
     black(rt, "opaque-no-tile", BAND, NO_TILE, rectangle(0, 2, 0, 8))
 }
 
 // The mask after a colour command, both read by a cursor that begins with another colour.
-fn second(
+fn second<'a>(
     rt: &impl Print,
     name: &str,
     before: u8,
-    colour: Colour,
-    commands: &[u8],
+    colour: Colour<'a>,
+    commands: &'a [u8],
 ) -> io::Result<()> {
     let first = Cursor {
         at: 0,
@@ -266,7 +252,7 @@ fn colours(rt: &impl Print) -> io::Result<()> {
 fn windows(rt: &impl Print) -> io::Result<()> {
     white(rt, "window-rectangle", WINDOW, INK, rectangle(1, 2, 1, 3))?;
     white(rt, "window-runs", WINDOW, INK, runs())?;
-    white(rt, "window-samples", WINDOW, INK, samples(2, 1, 15))?;
+    white(rt, "window-samples", WINDOW, INK, samples(2, 1, ARRAY))?;
     black(rt, "window-opaque", WINDOW, OPAQUE, rectangle(0, 4, 0, 16))?;
     white(
         rt,

@@ -1,6 +1,5 @@
 -- `film_cursor::advance` meets its contract: the command reader's answers, one by one. Assumes nothing.
-use Rattle.std.proofs.Common.{arith, rules, ◌≡◌, subst, ℕ, ◌≤◌, ◌/◌, List, length, Err}
-use Rattle.std.specs.Result.{MatchResult}
+use Rattle.std.proofs.Common.{arith, rules, ◌≡◌, ℕ, ◌≤◌, ◌/◌, List, length, Err}
 use Rattle.film_words.specs.Words.{words}
 use Rattle.film_words.proofs.Words.{length-words}
 use Rattle.film_words.proofs.Parts.{part_past, part_empty}
