@@ -205,6 +205,7 @@ fn read_runs<'a>(
     Ok((Command::Paint(runs), to))
 }
 
+// Apart from `read_runs`: they share one line, and differ in where the group, `s_min` and the next command stand. So do the two readers of arrays below.
 fn read_load_runs<'a>(args: Args<'a>, load: &'a [u8]) -> Result<(Command<'a>, usize), Refusal>
     ensures { (s : List ℕ) (least : ℕ) → read_as result ≡ placed s load.now args.entry.p (command (load_words load.now) least 8 (words args.entry.after.now)) }
 {

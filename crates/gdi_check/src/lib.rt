@@ -119,6 +119,7 @@ fn walk_pages(job: &[u8]) -> Result<usize, Refusal>
 {
     let mut at = HEAD.len();
     let mut state = State::Between(0);
+    // By place: each step says how far it goes.
     while at < job.len() {
         match step_at(job, at, state) {
             Ok(Step::Onward(next, n)) => {

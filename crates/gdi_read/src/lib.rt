@@ -44,6 +44,7 @@ fn line_pass(
     let mut rest = left;
     let mut sum = 0;
     let mut started = false;
+    // By place: what comes next says how far it goes.
     while at < job.len() {
         match next_at(job, at, rest, false, !started) {
             Ok(Next::ToBlock(size)) => {

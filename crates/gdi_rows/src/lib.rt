@@ -114,6 +114,7 @@ fn put_runs(row: &[u8], width: Width, output: &mut [u8]) -> usize
     let mut block = Block { head: 0, size: 0 };
     let mut from = 0;
     put_block_head(0, 0, output);
+    // By place: each turn passes a whole run.
     while from < width.dots {
         let end = row_runs::run_end(row, from, width.dots);
         let dots = end - from;

@@ -112,6 +112,7 @@ fn decode(field: &[u8], out: &mut [u8]) -> Option<usize> {
     }
     let mut rest = field;
     let mut n = 0;
+    // By what is left: each mark says how many characters it takes.
     while !rest.is_empty() {
         n += put_mark(rest, &mut out[n..])?;
         rest = rest.get(taken(rest[0])..)?;
