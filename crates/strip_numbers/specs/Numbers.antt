@@ -5,7 +5,7 @@ use Rattle.strip.specs.declared.Phase.TheVariants.{Hunt}
 use Rattle.refusal.specs.declared.Refusal.{Refusal}
 use Rattle.strip.specs.declared.Answer.{Answer}
 use Rattle.strip.specs.declared.Answer.TheVariants.{Reply, Initialized, Added, Ended, Inquired, Printed}
-use Rattle.refusal.specs.declared.Fault.TheVariants.{Checksum}
+use Rattle.refusal.specs.declared.Fault.TheVariants.{Checksum, UnknownCommand, PacketHeader, TooManyBands, BandBytes, Unusable}
 use Rattle.refusal.specs.Faults as faults
 use Rattle.strip.specs.Phases.{phase_of, number_of}
 use Rattle.strip.specs.Step.{After, Answered, refused_with, receiver, step_of, unusable, new_record}
@@ -100,6 +100,11 @@ pub record NumberCases : Type 0 where
   pub reply : answer_of (Ok (Reply 0x81)) ≡ record { kind = 0; reply = 0x81; event = 0; bands = 0; margins = 0; density = 0; number = 0; place = 0 }
   pub printed : answer_of (Ok (Printed 9 0x13 0x40)) ≡ record { kind = 0; reply = 0; event = 5; bands = 9; margins = 0x13; density = 0x40; number = 0; place = 0 }
   pub refused : answer_of (refused_with Checksum) ≡ record { kind = 1; reply = 0; event = 0; bands = 0; margins = 0; density = 0; number = 31; place = 0 }
+  pub unknown_command : (answer_of (refused_with UnknownCommand)).number ≡ 32
+  pub packet_header : (answer_of (refused_with PacketHeader)).number ≡ 33
+  pub too_many_bands : (answer_of (refused_with TooManyBands)).number ≡ 34
+  pub band_bytes : (answer_of (refused_with BandBytes)).number ≡ 35
+  pub unusable_call : (answer_of (refused_with Unusable)).number ≡ 36
   pub initialized : (answer_of (Ok Initialized)).event ≡ 1
   pub added : (answer_of (Ok (Added 3))).event ≡ 2
   pub added_count : (answer_of (Ok (Added 3))).bands ≡ 3
@@ -116,6 +121,11 @@ number_cases = record {
   reply = refl;
   printed = refl;
   refused = refl;
+  unknown_command = refl;
+  packet_header = refl;
+  too_many_bands = refl;
+  band_bytes = refl;
+  unusable_call = refl;
   initialized = refl;
   added = refl;
   added_count = refl;
