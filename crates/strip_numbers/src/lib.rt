@@ -6,7 +6,7 @@ ghost use Rattle.strip.specs.Step.{new_record};
 ghost use Rattle.strip_numbers.specs.Numbers.{record_of, NumberSteps};
 
 use refusal::{Fault, Refusal};
-use strip::{Answer, BODY_BYTES, Receiver};
+use strip::{Answer, Receiver};
 
 // A receiver's record, as C lays it out. Phase 0 is the search for a mark; so is any number that names no phase.
 #[repr(C)]
@@ -21,7 +21,7 @@ pub struct StripRecord {
     pub low: u8,
     pub status: u8,
     pub bands: u8,
-    pub body: [u8; BODY_BYTES],
+    pub body: [u8; 648],
 }
 
 impl From<StripRecord> for Receiver {
