@@ -107,6 +107,13 @@ sheet_file = bytes_of (1 ∷ 4 ∷ 0x8002 ∷ [])
 abbrev load_file : List ℕ
 load_file = bytes_of (0xA000 ∷ 0xB000 ∷ 0xC000 ∷ [])
 
+-- files of 20 words and of 1
+abbrev long_file : List ℕ
+long_file = bytes_of (0 ∷ 1 ∷ 2 ∷ 3 ∷ 4 ∷ 5 ∷ 6 ∷ 7 ∷ 8 ∷ 9 ∷ 10 ∷ 11 ∷ 12 ∷ 13 ∷ 14 ∷ 15 ∷ 16 ∷ 17 ∷ 18 ∷ 19 ∷ [])
+
+abbrev short_file : List ℕ
+short_file = bytes_of (7 ∷ [])
+
 -- a slice of these bytes, wherever it stands
 abbrev slice : List ℕ → Bor (List ℕ)
 slice bytes = record { ref_ptr = (0, 0); now = bytes }
@@ -118,8 +125,8 @@ tile t = record { transparent = t; address = 0; words = slice (bytes_of example_
 pub record CodeCases : Type 0 where
   pub next_place : placed sheet_file load_file 14 (taken ink nowhere 0) ≡ whole_at ink [] 15
   pub after_arguments : placed sheet_file load_file 14 (taken (priority 5) nowhere 2) ≡ whole_at (priority 5) [] 17
-  pub place_in_sheet : located 14 (in_band 2 3) ≡ of_sheet 16 19
-  pub place_in_load : located 14 (in_load 6 3) ≡ of_load 8 11
+  pub place_in_sheet : placed long_file short_file 14 (taken ink (in_band 2 3) 0) ≡ whole_at ink (part_for long_file short_file (of_sheet 16 19)) 15
+  pub place_in_load : placed short_file long_file 14 (taken ink (in_load 6 3) 0) ≡ whole_at ink (part_for short_file long_file (of_load 8 11)) 15
   pub at_code : placed sheet_file load_file 14 (refused 7 0) ≡ refused 7 14
   pub offset_counted : placed sheet_file load_file 14 (refused 8 3) ≡ refused 8 17
   pub answer_whole : read_as (Ok (Clear, 9)) ≡ whole_at clear [] 9
@@ -152,8 +159,8 @@ pub record CodeCases : Type 0 where
   pub samples_is : mask_of (Samples 8 7 (slice sheet_file)) ≡ samples 8 7 (1 ∷ 4 ∷ 0x8002 ∷ [])
   pub load_samples_is : command_of (Paint (Samples 8 7 (slice sheet_file))) ≡ paint (samples 8 7 (1 ∷ 4 ∷ 0x8002 ∷ []))
   -- the words of a group of the sheet and of one of the load
-  pub runs_words : placed (bytes_of (7 ∷ 0 ∷ 1 ∷ 4 ∷ [])) [] 0 (taken ink (in_band 2 2) 2) ≡ whole_at ink (bytes_of (1 ∷ 4 ∷ [])) 3
-  pub load_runs_words : placed [] (bytes_of (3 ∷ 0 ∷ 0 ∷ 1 ∷ 4 ∷ [])) 0 (taken ink (in_load 1 2) 3) ≡ whole_at ink (bytes_of (1 ∷ 4 ∷ [])) 4
+  pub runs_words : placed (bytes_of (9 ∷ 7 ∷ 0 ∷ 1 ∷ 4 ∷ [])) load_file 1 (taken ink (in_band 2 2) 2) ≡ whole_at ink (bytes_of (1 ∷ 4 ∷ [])) 4
+  pub load_runs_words : placed sheet_file (bytes_of (3 ∷ 0 ∷ 0 ∷ 1 ∷ 4 ∷ [])) 1 (taken ink (in_load 1 2) 3) ≡ whole_at ink (bytes_of (1 ∷ 4 ∷ [])) 5
   pub ink_colour : colour_of (colour.Solid true) ≡ solid true
   pub clear_colour : colour_of (colour.Solid false) ≡ solid false
   pub opaque_tile : colour_of (colour.Tile (tile false)) ≡ tiled false 0 example_tile

@@ -54,9 +54,9 @@ part from to left M j = leb from j && ltb j to && M (left + j)
 
 module _ (from to left : ℕ) (C : Colour) (s : ℕ) (M : ℕ → Bool) where
   -- none is painted yet
-  pub line_none : (row : List ℕ) → Bytes row → row ≡ row_of (length row) (painted_to from left C s (part from to left M) (dot_at row))
+  pub part_none : (row : List ℕ) → Bytes row → row ≡ row_of (length row) (painted_to from left C s (part from to left M) (dot_at row))
   unfolding painted_to
-  line_none row bytes =
+  part_none row bytes =
       row_is (length row) (painted_to from left C s (part from to left M) (dot_at row)) row bytes refl
       (λ j l. sym (ap (λ (x : Bool). painted C s (left + j) x (dot_at row j)) (go j (dec_lt j from)) ∙ painted_off C s (left + j) (dot_at row j)))
     where
@@ -66,10 +66,10 @@ module _ (from to left : ℕ) (C : Colour) (s : ℕ) (M : ℕ → Bool) where
 
   module _ (n k : ℕ) (d : ℕ → Bool) (row : List ℕ) (e : row ≡ row_of n (painted_to k left C s (part from to left M) d)) where
     -- those before k are painted, and then dot k, which the mask has
-    pub line_more : (row' : List ℕ) → row' ≡ row_of (length row) (with_dot k (painted C s (left + k) true (dot_at row k)) (dot_at row))
+    pub part_more : (row' : List ℕ) → row' ≡ row_of (length row) (with_dot k (painted C s (left + k) true (dot_at row k)) (dot_at row))
         → from ≤ k → k < to → M (left + k) ≡ true → row' ≡ row_of n (painted_to (k + 1) left C s (part from to left M) d)
     unfolding painted_to with_dot
-    line_more row' e' a b h =
+    part_more row' e' a b h =
         e' ∙ ap (λ (b : ℕ). row_of b (with_dot k (painted C s (left + k) true (dot_at row k)) (dot_at row))) (length_is n (painted_to k left C s (part from to left M) d) row e)
         ∙ row_of-same n (with_dot k (painted C s (left + k) true (dot_at row k)) (dot_at row)) (painted_to (k + 1) left C s (part from to left M) d)
         (λ j l. go j (ap (λ (r : List ℕ). dot_at r j) e ∙ dot_row_of n (painted_to k left C s (part from to left M) d) j l) (ℕ_discrete j k))
@@ -86,9 +86,9 @@ module _ (from to left : ℕ) (C : Colour) (s : ℕ) (M : ℕ → Bool) where
             (is_same (ltb j k) (ltb j (k + 1)) (ltb_is j k) (ltb_is j (k + 1)) (λ a. omega arith) (λ a. omega arith)))
 
     -- dot k stays, which the mask has not
-    pub line_kept : M (left + k) ≡ false → row ≡ row_of n (painted_to (k + 1) left C s (part from to left M) d)
+    pub part_kept : M (left + k) ≡ false → row ≡ row_of n (painted_to (k + 1) left C s (part from to left M) d)
     unfolding painted_to
-    line_kept h = mask_same left C s n (λ j. ltb j k && part from to left M j) (λ j. ltb j (k + 1) && part from to left M j) d row (λ j l. go j (ℕ_discrete j k)) e
+    part_kept h = mask_same left C s n (λ j. ltb j k && part from to left M j) (λ j. ltb j (k + 1) && part from to left M j) d row (λ j l. go j (ℕ_discrete j k)) e
       where
         go : (j : ℕ) → Dec (j ≡ k) → (ltb j k && part from to left M j) ≡ (ltb j (k + 1) && part from to left M j)
         go j (yes q) = rw (q, h) (simp and-false)
@@ -97,13 +97,61 @@ module _ (from to left : ℕ) (C : Colour) (s : ℕ) (M : ℕ → Bool) where
             (is_same (ltb j k) (ltb j (k + 1)) (ltb_is j k) (ltb_is j (k + 1)) (λ a. omega arith) (λ a. omega arith))
 
     -- all are painted
-    pub line_done : to ≤ k → row ≡ row_of n (λ j. painted C s (left + j) (part from to left M j) (d j))
+    pub part_done : to ≤ k → row ≡ row_of n (λ j. painted C s (left + j) (part from to left M j) (d j))
     unfolding painted_to
-    line_done h = mask_same left C s n (λ j. ltb j k && part from to left M j) (part from to left M) d row (λ j l. go j (dec_lt j k)) e
+    part_done h = mask_same left C s n (λ j. ltb j k && part from to left M j) (part from to left M) d row (λ j l. go j (dec_lt j k)) e
       where
         go : (j : ℕ) → Dec (j < k) → (ltb j k && part from to left M j) ≡ part from to left M j
         go j (yes p) = rw (lt-ltb j k p)
         go j (no p) = rw (le-ltb j k (omega arith), le-ltb j to (omega arith)) (simp and-false)
+
+-- ---- dot by dot, for any mask that has no dot elsewhere
+
+-- every dot of the mask is one of those from `from` up to, not including, `end`
+abbrev pub Between : (from end : ℕ) → (ℕ → Bool) → Type 0
+Between from end M = (j : ℕ) → (from ≤ j → j < end → ⊥) → M j ≡ false
+
+module _ (left : ℕ) (C : Colour) (s : ℕ) (M : ℕ → Bool) where
+  -- none is painted yet
+  pub line_none : (from end : ℕ) (row : List ℕ) → Between from end M → Bytes row → row ≡ row_of (length row) (painted_to from left C s M (dot_at row))
+  unfolding painted_to
+  line_none from end row within bytes =
+      row_is (length row) (painted_to from left C s M (dot_at row)) row bytes refl
+      (λ j l. sym (ap (λ (x : Bool). painted C s (left + j) x (dot_at row j)) (go j (dec_lt j from)) ∙ painted_off C s (left + j) (dot_at row j)))
+    where
+      go : (j : ℕ) → Dec (j < from) → (ltb j from && M j) ≡ false
+      go j (yes h) = rw (lt-ltb j from h) (within j (λ p q. omega arith))
+      go j (no h) = rw (le-ltb j from (omega arith))
+
+  -- those before k are painted, and then dot k; m is the mask there
+  pub line_more : (n k : ℕ) (m : Bool) (d : ℕ → Bool) (row row' : List ℕ) → row ≡ row_of n (painted_to k left C s M d)
+      → row' ≡ row_of (length row) (with_dot k (painted C s (left + k) m (dot_at row k)) (dot_at row)) → m ≡ M k
+      → row' ≡ row_of n (painted_to (k + 1) left C s M d)
+  unfolding painted_to with_dot
+  line_more n k m d row row' e e' h =
+      e' ∙ ap (λ (b : ℕ). row_of b (with_dot k (painted C s (left + k) m (dot_at row k)) (dot_at row))) (length_is n (painted_to k left C s M d) row e)
+      ∙ row_of-same n (with_dot k (painted C s (left + k) m (dot_at row k)) (dot_at row)) (painted_to (k + 1) left C s M d)
+      (λ j l. go j (ap (λ (r : List ℕ). dot_at r j) e ∙ dot_row_of n (painted_to k left C s M d) j l) (ℕ_discrete j k))
+    where
+      go : (j : ℕ) → dot_at row j ≡ painted C s (left + j) (ltb j k && M j) (d j) → Dec (j ≡ k)
+          → cond (eqb j k) (painted C s (left + k) m (dot_at row k)) (dot_at row j) ≡ painted C s (left + j) (ltb j (k + 1) && M j) (d j)
+      go j o (yes q) =
+          let old : dot_at row k ≡ d k = ap (dot_at row) (sym q) ∙ o ∙ rw (q, le-ltb k k (omega arith)) (painted_off C s (left + k) (d k)) in
+          rw (eq-eqb j k q, old, q, lt-ltb k (k + 1) (omega arith), h)
+      go j o (no q) =
+          rw (ne_eqb j k q)
+          (o ∙ ap (λ (x : Bool). painted C s (left + j) (x && M j) (d j))
+          (is_same (ltb j k) (ltb j (k + 1)) (ltb_is j k) (ltb_is j (k + 1)) (λ a. omega arith) (λ a. omega arith)))
+
+  -- all are painted: k is at the end, or past the row's
+  pub line_done : (n from end k : ℕ) (d : ℕ → Bool) (row : List ℕ) → Between from end M → min end (8 * n) ≤ k
+      → row ≡ row_of n (painted_to k left C s M d) → row ≡ row_of n (λ j. painted C s (left + j) (M j) (d j))
+  unfolding painted_to
+  line_done n from end k d row within h = mask_same left C s n (λ j. ltb j k && M j) M d row (λ j l. go j l (dec_lt j k))
+    where
+      go : (j : ℕ) → j < 8 * n → Dec (j < k) → (ltb j k && M j) ≡ M j
+      go j l (yes p) = rw (lt-ltb j k p)
+      go j l (no p) = rw (le-ltb j k (omega arith)) (sym (within j (λ a b. omega arith)))
 
 -- ---- the mask of a stretch
 
