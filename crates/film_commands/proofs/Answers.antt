@@ -13,7 +13,7 @@ use Rattle.film_words.specs.Answers.{extent_of}
 use Rattle.film_words.proofs.Answers.{words-some, past_none}
 use Rattle.film_commands.specs.Refusals.{argument_words}
 use Rattle.film_commands.specs.Commands.{Command, ink, clear, Source, nowhere, Taken, taken, command}
-use Rattle.film_commands.specs.Code.{part_for, whole_at, located, placed, array_answer}
+use Rattle.film_commands.specs.Code.{Named, nothing, part_for, whole_at, located, placed, array_answer}
 use Rattle.film_commands.proofs.Commands.{too_few, ink_read, clear_read}
 
 -- a refusal has the place of an argument word
@@ -31,19 +31,19 @@ pub refused-cut : {r : Refusal} (s l : List ℕ) (p : ℕ) (load : List ℕ) (le
     → (r ≡ record { fault = fault.Cut; place = p }) × (length args < argument_words code) → refused_as r ≡ placed s l p (command load least code args)
 refused-cut s l p load least code args k (e, f) = refused-at s l p _ e (too_few load least code args k f)
 
--- a whole command ends before place q, and its words are the part that its source names
-pub whole-at : (s l : List ℕ) (p n q : ℕ) (c : Command) (b : List ℕ) (src : Source) (t : Taken) → t ≡ taken c src n → b ≡ part_for s l (located p src)
-    → q ≡ p + suc n → whole_at c b q ≡ placed s l p t
-whole-at s l p n q c b src t e w h = ap₂ (whole_at c) w h ∙ sym (ap (placed s l p) e)
+-- a whole command ends before place q, it names the words of its source, and its bytes are theirs
+pub whole-at : (s l : List ℕ) (p n q : ℕ) (c : Command) (k : Named) (b : List ℕ) (src : Source) (t : Taken) → t ≡ taken c src n → k ≡ located p src
+    → b ≡ part_for s l (located p src) → q ≡ p + suc n → whole_at c k b q ≡ placed s l p t
+whole-at s l p n q c k b src t e m w h = ap (λ (x : Named). whole_at c x b q) m ∙ ap₂ (whole_at c (located p src)) w h ∙ sym (ap (placed s l p) e)
 
 -- ink and clear at place p
-pub ink_at : (s l load : List ℕ) (least p : ℕ) (args : List ℕ) → placed s l p (command load least 2 args) ≡ whole_at ink [] (p + 1)
+pub ink_at : (s l load : List ℕ) (least p : ℕ) (args : List ℕ) → placed s l p (command load least 2 args) ≡ whole_at ink nothing [] (p + 1)
 unfolding part_for
-ink_at s l load least p args = sym (whole-at s l p 0 (p + 1) ink [] nowhere (command load least 2 args) (ink_read load args least) refl refl)
+ink_at s l load least p args = sym (whole-at s l p 0 (p + 1) ink nothing [] nowhere (command load least 2 args) (ink_read load args least) refl refl refl)
 
-pub clear_at : (s l load : List ℕ) (least p : ℕ) (args : List ℕ) → placed s l p (command load least 3 args) ≡ whole_at clear [] (p + 1)
+pub clear_at : (s l load : List ℕ) (least p : ℕ) (args : List ℕ) → placed s l p (command load least 3 args) ≡ whole_at clear nothing [] (p + 1)
 unfolding part_for
-clear_at s l load least p args = sym (whole-at s l p 0 (p + 1) clear [] nowhere (command load least 3 args) (clear_read load args least) refl refl)
+clear_at s l load least p args = sym (whole-at s l p 0 (p + 1) clear nothing [] nowhere (command load least 3 args) (clear_read load args least) refl refl refl)
 
 -- what is given is the same where the answers are
 pub given_same : {A : Type 0} {a b : A} → given a ≡ given b → a ≡ b

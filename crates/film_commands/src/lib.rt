@@ -32,6 +32,15 @@ pub struct Trapezoid {
     pub f_size_last: u16,
 }
 
+// Where the words of a run group or a sample array stand, in the load file or in the sheet, from place `from` up to, not including, `to`; and they.
+#[derive(Clone, Copy)]
+pub struct Words<'a> {
+    pub load: bool,
+    pub from: usize,
+    pub to: usize,
+    pub bytes: &'a [u8],
+}
+
 // A mask: its numbers, and the words of its run group or its sample array.
 #[derive(Clone, Copy)]
 pub enum Mask<'a> {
@@ -39,20 +48,21 @@ pub enum Mask<'a> {
     Trapezoid(Trapezoid),
     Runs {
         s_min: u16,
-        group: &'a [u8],
+        group: Words<'a>,
     },
     Samples {
         s_min: u16,
         f_min: u16,
-        array: &'a [u8],
+        array: Words<'a>,
     },
 }
 
-// A tile: its address in the load, and its words.
+// A tile: its address in the load, its words, and the place after the last of them. The first has place `address` + 2.
 #[derive(Clone, Copy)]
 pub struct Tile<'a> {
     pub transparent: bool,
     pub address: usize,
+    pub to: usize,
     pub words: &'a [u8],
 }
 
@@ -153,6 +163,7 @@ fn read_tile<'a>(args: Args<'a>, load: &'a [u8]) -> Result<(Command<'a>, usize),
     let tile = Tile {
         transparent: mode == 1,
         address,
+        to,
         words: part(load, from, to),
     };
     Ok((Command::Tile(tile), args.p + 4))
@@ -200,7 +211,12 @@ fn read_runs<'a>(
     let to = from + n;
     let runs = Mask::Runs {
         s_min: args.word(0),
-        group: part(sheet, from, to),
+        group: Words {
+            load: false,
+            from,
+            to,
+            bytes: part(sheet, from, to),
+        },
     };
     Ok((Command::Paint(runs), to))
 }
@@ -215,7 +231,12 @@ fn read_load_runs<'a>(args: Args<'a>, load: &'a [u8]) -> Result<(Command<'a>, us
     let to = from + n;
     let runs = Mask::Runs {
         s_min: args.word(2),
-        group: part(load, from, to),
+        group: Words {
+            load: true,
+            from,
+            to,
+            bytes: part(load, from, to),
+        },
     };
     Ok((Command::Paint(runs), args.p + 4))
 }
@@ -246,7 +267,12 @@ fn read_samples<'a>(
     let samples = Mask::Samples {
         s_min: args.word(0),
         f_min: args.word(1),
-        array: part(sheet, from, to),
+        array: Words {
+            load: false,
+            from,
+            to,
+            bytes: part(sheet, from, to),
+        },
     };
     Ok((Command::Paint(samples), to))
 }
@@ -261,15 +287,22 @@ fn read_load_samples<'a>(args: Args<'a>, load: &'a [u8]) -> Result<(Command<'a>,
     let samples = Mask::Samples {
         s_min: args.word(2),
         f_min: args.word(3),
-        array: part(load, from, to),
+        array: Words {
+            load: true,
+            from,
+            to,
+            bytes: part(load, from, to),
+        },
     };
     Ok((Command::Paint(samples), args.p + 5))
 }
 
 // The command at place p of a band that ends before place `end`, where the band's priority so far is `least`, and the place after it. Where the sheet
 // has not all words from p up to `end`, or there are none, no command is there, and it is cut at p. The words of a tile, a group or an array are
-// the part of the load or of the sheet that holds them.
+// the part of the load or of the sheet that holds them, and told with the file and the places where they stand. Inlined: its answer is large, and it is
+// called for each command.
 #[tactic(auto, using(crate::proofs::Commands::command_here, crate::proofs::Answers::ink_at, crate::proofs::Answers::clear_at), unfolding(crate::specs::Code::command_of, crate::specs::Code::bytes_in))]
+#[inline(always)]
 pub fn read_command<'a>(
     sheet: &'a [u8],
     load: &'a [u8],

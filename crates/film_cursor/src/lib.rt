@@ -28,7 +28,8 @@ pub enum Step<'a> {
 }
 
 // The cursor's next command, in a band that ends before place `end`; none at the band's end. Where the sheet has not all words up to `end`, there is
-// none.
+// none. Inlined, as the test below: their answers are large.
+#[inline(always)]
 pub fn advance<'a>(
     sheet: &'a [u8],
     load: &'a [u8],
@@ -75,6 +76,7 @@ pub fn start<'a>(from: usize) -> Cursor<'a>
 }
 
 // The test of a band's commands, from place `from` up to, not including, place `end`. A sheet that ends before `end` has none there.
+#[inline(always)]
 pub fn test_band<'a>(
     sheet: &'a [u8],
     load: &'a [u8],

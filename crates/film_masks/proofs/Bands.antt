@@ -21,8 +21,8 @@ use Rattle.film_masks.specs.Bands.{painted_dot, painted_band}
 
 -- ---- tests joined
 
-and_same : (a b x y : Bool) → (a ≡ true → x ≡ y) → (a && b && x) ≡ (a && b && y)
-and_same true true x y h = h refl
+and_same : (a b x y : Bool) → (a ≡ true → b ≡ true → x ≡ y) → (a && b && x) ≡ (a && b && y)
+and_same true true x y h = h refl refl
 and_same true false x y h = refl
 and_same false b x y h = refl
 
@@ -62,7 +62,7 @@ module _ (w : Window) (first rows : ℕ) (C : Colour) where
       let s = first + g / n in
       let f = w.f_min + g % n in
       ap (λ (b : Bool). on g b (d g))
-      (and_same (ltb (g / n) rows) (ltb (g % n) w.f_size) (M s f) (N s f) (λ a. h s f (omega arith) (omega (arith, ltb-true (g / n) rows a))))
+      (and_same (ltb (g / n) rows) (ltb (g % n) w.f_size) (M s f) (N s f) (λ a b. h s f (omega arith) (omega (arith, ltb-true (g / n) rows a))))
 
   -- masks that are the same on the band give the same buffer
   pub band_same : (M N : Film) (buf : List ℕ) → Same first rows M N → band M buf ≡ band N buf
@@ -89,6 +89,22 @@ module _ (w : Window) (first rows : ℕ) (C : Colour) where
       both : (t : Bool) → cond t buf buf ≡ buf
       both true = refl
       both false = refl
+
+  -- so does one whose dots are all right of the window
+  pub band_right : (M : Film) (buf : List ℕ) → Bytes buf → ((s f : ℕ) → f < w.f_min + w.f_size → M s f ≡ false) → buf ≡ band M buf
+  unfolding painted_band painted_dot
+  band_right M buf bytes h =
+      sym
+      (ap (λ (d : ℕ → Bool). cond (leb (rows * row_length w.f_size) (length buf)) (row_of (length buf) d) buf) (fun_ext clipped)
+      ∙ band_none (λ s f. false) buf bytes (λ s f a b. refl))
+    where
+      clipped : (g : ℕ) → dots M (dot_at buf) g ≡ dots (λ s f. false) (dot_at buf) g
+      clipped g =
+          let n = 8 * row_length w.f_size in
+          let f = w.f_min + g % n in
+          ap (λ (b : Bool). on g b (dot_at buf g))
+          (and_same (ltb (g / n) rows) (ltb (g % n) w.f_size) (M (first + g / n) f) false
+          (λ a b. h (first + g / n) f (omega (arith, ltb-true (g % n) w.f_size b))))
 
   -- a painted buffer keeps its length, and its bytes are bytes
   pub length_band : (M : Film) (buf : List ℕ) → length (band M buf) ≡ length buf

@@ -147,6 +147,11 @@ pub samples_dots : (s_min f_min : ℕ) (ws : List ℕ) (s : ℕ) → s_min ≤ s
 unfolding masked
 samples_dots s_min f_min ws s h f = rw (le-leb s_min s h) refl
 
+-- an array has no dot left of f_min
+pub samples_before : (s_min f_min : ℕ) (ws : List ℕ) (s f : ℕ) → f < f_min → masked (samples s_min f_min ws) s f ≡ false
+unfolding masked
+samples_before s_min f_min ws s f h = rw (lt-leb f_min f h, and-false (leb s_min s)) refl
+
 -- line s of a mask is painted by its dots L there
 row_same : (w : Window) (C : Colour) (M : Film) (s : ℕ) (L : ℕ → Bool) (row row' : List ℕ) → ((f : ℕ) → M s f ≡ L f)
     → row' ≡ painted_row w C s L row → row' ≡ painted_row w C s (M s) row

@@ -119,6 +119,10 @@ fn ink_array(buf: &mut [u8], frame: Frame, s_min: u16, f_min: u16, array: &[u8],
     requires { HasRows frame buf.old }
     ensures { buf.new ≡ painted_frame frame (colour_of colour.entry) (masked (samples s_min f_min (words array.now))) buf.old }
 {
+    // Dots right of the window are none of the band's.
+    if f_min as usize >= frame.left as usize + frame.width as usize {
+        return;
+    }
     let first = s_min as u32;
     let end = first + word(array, 0) as u32;
     ink_lines(
@@ -141,11 +145,11 @@ pub fn ink_mask(buf: &mut [u8], frame: Frame, colour: Colour, mask: Mask)
     match mask {
         Mask::Rectangle(r) => ink_rectangle(buf, frame, r, colour),
         Mask::Trapezoid(t) => ink_trapezoid(buf, frame, t, colour),
-        Mask::Runs { s_min, group } => ink_runs(buf, frame, s_min, group, colour),
+        Mask::Runs { s_min, group } => ink_runs(buf, frame, s_min, group.bytes, colour),
         Mask::Samples {
             s_min,
             f_min,
             array,
-        } => ink_array(buf, frame, s_min, f_min, array, colour),
+        } => ink_array(buf, frame, s_min, f_min, array.bytes, colour),
     }
 }

@@ -96,14 +96,14 @@ module _ (from to left : ℕ) (C : Colour) (s : ℕ) (M : ℕ → Bool) where
             ap (λ (x : Bool). x && part from to left M j)
             (is_same (ltb j k) (ltb j (k + 1)) (ltb_is j k) (ltb_is j (k + 1)) (λ a. omega arith) (λ a. omega arith))
 
-    -- all are painted
-    pub part_done : to ≤ k → row ≡ row_of n (λ j. painted C s (left + j) (part from to left M j) (d j))
+    -- all are painted: k is at the end, or past the row's
+    pub part_done : min to (8 * n) ≤ k → row ≡ row_of n (λ j. painted C s (left + j) (part from to left M j) (d j))
     unfolding painted_to
-    part_done h = mask_same left C s n (λ j. ltb j k && part from to left M j) (part from to left M) d row (λ j l. go j (dec_lt j k)) e
+    part_done h = mask_same left C s n (λ j. ltb j k && part from to left M j) (part from to left M) d row (λ j l. go j l (dec_lt j k)) e
       where
-        go : (j : ℕ) → Dec (j < k) → (ltb j k && part from to left M j) ≡ part from to left M j
-        go j (yes p) = rw (lt-ltb j k p)
-        go j (no p) = rw (le-ltb j k (omega arith), le-ltb j to (omega arith)) (simp and-false)
+        go : (j : ℕ) → j < 8 * n → Dec (j < k) → (ltb j k && part from to left M j) ≡ part from to left M j
+        go j l (yes p) = rw (lt-ltb j k p)
+        go j l (no p) = rw (le-ltb j k (omega arith), le-ltb j to (omega arith)) (simp and-false)
 
 -- ---- dot by dot, for any mask that has no dot elsewhere
 

@@ -97,7 +97,9 @@ fn paint_dots<F: Fn(usize) -> bool>(
     requires { (to < 2 ^ 32) × Takes left from to (F.pre mask) }
     ensures { (M : ℕ → Bool) → Tells left from to (F.post mask) M → row.new ≡ row_of (length row.old) (λ j. painted (colour_of colour.entry) s (left + j) (leb from j && ltb j to && M (left + j)) (dot_at row.old j)) }
 {
-    for j in from..to {
+    // Past the row's end there is nothing to paint.
+    let end = to.min(row.len().saturating_mul(8));
+    for j in from..end {
         let f = left as usize + j;
         if mask(f) {
             paint_dot(row, j, s, f, colour);

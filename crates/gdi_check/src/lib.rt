@@ -61,7 +61,9 @@ fn step_between(job: &[u8], at: usize, pages: usize) -> Result<Step, Refusal>
     }
 }
 
-// The page after a command of so many dots, with so many bytes left of the block. A line is whole where the sum reaches the width.
+// The page after a command of so many dots, with so many bytes left of the block. A line is whole where the sum reaches the width. This and the two steps
+// below are inlined: their answers are large, and they are made for each command.
+#[inline(always)]
 fn after_command(page: Page, dots: usize, left: usize) -> Page
     requires { (page.sum < page.width) × (page.width ≤ 16383) × (dots ≤ 16383) × (page.lines < 65535) }
     ensures { state_of (State.InPage result) ≡ with_sum page.pages page.width page.height page.lines (page.sum + dots) left }
@@ -82,6 +84,7 @@ fn after_command(page: Page, dots: usize, left: usize) -> Page
 
 // A step in a page. The place of a refusal is counted from `at`.
 #[tactic(auto, unfolding(gdi_jobs::specs::Jobs::step))]
+#[inline(always)]
 fn step_in_page(job: &[u8], at: usize, page: Page) -> Result<Step, Refusal>
     requires { Bounded (state_of (State.InPage page)) at × (at ≤ longest) }
     ensures { step_of result ≡ step (state_of (State.InPage page)) (drop at job.now) }
@@ -102,6 +105,7 @@ fn step_in_page(job: &[u8], at: usize, page: Page) -> Result<Step, Refusal>
 
 // A step at place `at`. The place of a refusal is counted from there.
 #[tactic(auto, unfolding(gdi_jobs::specs::Jobs::step))]
+#[inline(always)]
 fn step_at(job: &[u8], at: usize, state: State) -> Result<Step, Refusal>
     requires { Bounded (state_of state) at × (at ≤ longest) }
     ensures { step_of result ≡ step (state_of state) (drop at job.now) }

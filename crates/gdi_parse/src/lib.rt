@@ -71,6 +71,7 @@ const PAGE_END: [Option<u8>; 6] = [Some(0x13), Some(0), Some(0), Some(0), Some(0
 const DOCUMENT_END: [Option<u8>; 6] = [Some(0x14), Some(0), Some(0), Some(0), Some(0), Some(0)];
 
 // The bytes of the job from place `at` on; none past its end.
+#[inline(always)]
 fn rest(job: &[u8], at: usize) -> &[u8]
     ensures { result.now ≡ drop at job.now }
 {
@@ -169,6 +170,7 @@ fn next_group(bytes: &[u8], may_end: bool) -> Result<Next, Refusal>
 
 // The command whose first byte this is, where its block has `left` bytes from there on and the job the bytes `after` after it.
 #[tactic(auto, unfolding(gdi_jobs::specs::Commands::command))]
+#[inline(always)]
 fn next_command(first: u8, after: &[u8], left: usize) -> Result<Next, Refusal>
     ensures { next_of result ≡ of_command (command left first after.now) }
 {
@@ -194,25 +196,10 @@ fn next_command(first: u8, after: &[u8], left: usize) -> Result<Next, Refusal>
     })
 }
 
-// What comes next in a page, where its block has `left` bytes from there on.
-#[tactic(auto, unfolding(gdi_jobs::specs::Pages::next))]
-fn next_in(bytes: &[u8], left: usize, full: bool, may_end: bool) -> Result<Next, Refusal>
-    ensures { next_of result ≡ next full may_end left bytes.now }
-{
-    if left == 0 {
-        return next_group(bytes, may_end);
-    }
-    let Some((first, after)) = bytes.split_first() else {
-        return Err(Fault::JobEnds.at(0));
-    };
-    if full {
-        return Err(Fault::PageLines.at(0));
-    }
-    next_command(*first, after, left)
-}
-
 // What comes next at place `at` of a page, where its block has `left` bytes from there on. `full`: the page has all its lines. `may_end`: it may
-// end here. The place of a refusal is counted from `at`.
+// end here. The place of a refusal is counted from `at`. Inlined: it is called for each command, and its answer is large.
+#[inline(always)]
+#[tactic(auto, using(std::proofs::lemmas::List::drop_more), unfolding(gdi_jobs::specs::Pages::next))]
 pub fn next_at(
     job: &[u8],
     at: usize,
@@ -222,5 +209,14 @@ pub fn next_at(
 ) -> Result<Next, Refusal>
     ensures { next_of result ≡ next full may_end left (drop at job.now) }
 {
-    next_in(rest(job, at), left, full, may_end)
+    if left == 0 {
+        return next_group(rest(job, at), may_end);
+    }
+    let Some(first) = job.get(at) else {
+        return Err(Fault::JobEnds.at(0));
+    };
+    if full {
+        return Err(Fault::PageLines.at(0));
+    }
+    next_command(*first, rest(job, at + 1), left)
 }

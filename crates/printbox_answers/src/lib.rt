@@ -4,7 +4,7 @@
 
 ghost use Rattle.std.specs.Prelude.{◌≡◌, ℕ, List};
 ghost use Rattle.printbox_answers.specs.Numbers.{done};
-ghost use Rattle.printbox_answers.specs.Code.{line_values, numbers_of};
+ghost use Rattle.printbox_answers.specs.Code.{line_values, told_refusal, told_number, numbers_of};
 
 use film_drawing::Drawn;
 use gdi_read::LineRead;
@@ -61,12 +61,38 @@ impl Values for LineRead {
     }
 }
 
+// What an entry refuses with, as its kind and two values.
+pub trait Told {
+    ghost told: { Self → List ℕ };
+
+    fn told(self) -> [u64; 3]
+        ensures { result ≡ told self };
+}
+
+impl Told for Refusal {
+    ghost told = { told_refusal };
+
+    fn told(self) -> [u64; 3] {
+        [REFUSED, u64::from(u8::from(self.fault)), self.place as u64]
+    }
+}
+
+// Any number, and a place.
+impl Told for (u8, usize) {
+    ghost told = { told_number };
+
+    fn told(self) -> [u64; 3] {
+        let (number, place) = self;
+        [REFUSED, u64::from(number), place as u64]
+    }
+}
+
 // The three numbers of an answer.
-pub fn numbers<T: Values>(answer: Result<T, Refusal>) -> [u64; 3]
-    ensures { result ≡ numbers_of T.values answer }
+pub fn numbers<T: Values, R: Told>(answer: Result<T, R>) -> [u64; 3]
+    ensures { result ≡ numbers_of T.values R.told answer }
 {
     match answer {
         Ok(value) => value.values(),
-        Err(r) => [REFUSED, u64::from(u8::from(r.fault)), r.place as u64],
+        Err(refusal) => refusal.told(),
     }
 }

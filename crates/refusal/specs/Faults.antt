@@ -1,5 +1,5 @@
 -- The numbers of the faults.
-use Rattle.std.specs.Prelude.{ℕ}
+use Rattle.std.specs.Prelude.{◌≡◌, ℕ}
 use Rattle.refusal.specs.declared.Fault.{Fault}
 use Rattle.refusal.specs.declared.Fault.TheVariants as fault
 
@@ -31,3 +31,18 @@ number_of fault.PacketHeader = 33
 number_of fault.TooManyBands = 34
 number_of fault.BandBytes = 35
 number_of fault.Unusable = 36
+
+-- ---- worked cases
+
+pub record FaultCases : Type 0 where
+  pub first : number_of fault.Length ≡ 1
+  pub last_of_a_sheet : number_of fault.Padding ≡ 15
+  -- 14 is gone
+  pub before_it : number_of fault.TileMode ≡ 13
+  pub first_of_a_job : number_of fault.JobHead ≡ 21
+  pub last_of_a_job : number_of fault.Writing ≡ 27
+  pub first_of_a_strip : number_of fault.Checksum ≡ 31
+  pub last : number_of fault.Unusable ≡ 36
+
+pub fault_cases : FaultCases
+fault_cases = search

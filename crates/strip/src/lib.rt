@@ -1,9 +1,9 @@
 // The strip printer's receiver: its record, and what its functions share.
 #![tactic(auto)]
 
-ghost use Rattle.std.specs.Prelude.{◌≡◌};
+ghost use Rattle.std.specs.Prelude.{◌≡◌, ℕ, Err};
 ghost use Rattle.strip.specs.Packets.{number};
-ghost use Rattle.strip.specs.Step.{at, refused_with, unusable, new_record};
+ghost use Rattle.strip.specs.Step.{at, unusable, new_record};
 
 use refusal::{Fault, Refusal};
 
@@ -133,9 +133,39 @@ pub enum Answer {
 }
 
 #[derive(Clone, Copy)]
-pub struct Stepped {
+pub struct Stepped<R = Refusal> {
     pub rec: Receiver,
-    pub answer: Result<Answer, Refusal>,
+    pub answer: Result<Answer, R>,
+}
+
+// What a packet is refused with, and the refusal at a place: a fault, or any number of the caller's.
+pub trait Refuses {
+    type Told;
+
+    ghost refused_at: { Self → ℕ → Self.Told };
+
+    fn refused_at(self, place: usize) -> Self::Told
+        ensures { result ≡ refused_at self place };
+}
+
+impl Refuses for Fault {
+    type Told = Refusal;
+
+    ghost refused_at = { λ f p. record { fault = f; place = p } };
+
+    fn refused_at(self, place: usize) -> Refusal {
+        self.at(place)
+    }
+}
+
+impl Refuses for u8 {
+    type Told = (u8, usize);
+
+    ghost refused_at = { λ n p. (n, p) };
+
+    fn refused_at(self, place: usize) -> (u8, usize) {
+        (self, place)
+    }
 }
 
 // A record before the first byte.
@@ -164,12 +194,12 @@ pub fn go_to(rec: Receiver, phase: Phase) -> Receiver
 }
 
 // A refusal: the search for a mark begins at the next byte.
-pub fn refuse_with(rec: Receiver, fault: Fault) -> Stepped
-    ensures { (result.rec ≡ at rec Phase.Hunt) × (result.answer ≡ refused_with fault) }
+pub fn refuse_with<N: Refuses>(rec: Receiver, number: N) -> Stepped<N::Told>
+    ensures { (result.rec ≡ at rec Phase.Hunt) × (result.answer ≡ Err (N.refused_at number 0)) }
 {
     Stepped {
         rec: go_to(rec, Phase::Hunt),
-        answer: Err(fault.at(0)),
+        answer: Err(number.refused_at(0)),
     }
 }
 

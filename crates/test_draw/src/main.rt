@@ -5,6 +5,7 @@
 use film_draw::draw;
 use film_drawing::Drawn;
 use std::io;
+use text::row_line;
 
 // The bytes of the buffer.
 const ROOM: usize = 20;
@@ -37,10 +38,11 @@ fn call(
         Ok(Drawn { rows, dots }) => println!(rt; ": drawn {rows} {dots}")?,
         Err(refusal) => println!(rt; ": {refusal}")?,
     }
-    for b in buffer.iter() {
-        print!(rt; "{b:02X}")?;
+    let mut line = [0u8; 2 * ROOM + 1];
+    if row_line(buffer, &mut line).is_some() {
+        rt.write_all(&line)?;
     }
-    println!(rt; "")
+    Ok(())
 }
 
 fn good(

@@ -28,7 +28,7 @@ use gdi_read::{LineRead, read_line};
 use gdi_rows::write_row;
 use gdi_write::{PageHead, Paper, write_document_end, write_head, write_page_end, write_page_head};
 use parse::{bytes, number};
-use print::{Answer, Digits, print_answer, print_bad_line, print_name, print_next};
+use print::{Answer, print_answer, print_bad_line, print_digits, print_name, print_next};
 use reading::read_full;
 use refusal::Refusal;
 use std::io;
@@ -138,7 +138,10 @@ fn run(fields: &[&[u8]], first: &mut [u8], second: &mut [u8]) -> Option<Outcome>
 fn print_outcome(rt: &impl Print, outcome: Outcome, second: &[u8]) -> io::Result<()> {
     print_answer(rt, outcome.answer)?;
     match outcome.shown.and_then(|n| second.get(..n)) {
-        Some(output) => print!(rt; " {}", Digits(output)),
+        Some(output) => {
+            print!(rt; " ")?;
+            print_digits(rt, output)
+        }
         None => Ok(()),
     }
 }
@@ -253,7 +256,8 @@ fn read_rows(
                     left: rest,
                 },
             ) => {
-                print!(rt; "row {}", Digits(row))?;
+                print!(rt; "row ")?;
+                print_digits(rt, row)?;
                 offset = next;
                 left = rest;
             }

@@ -3,6 +3,10 @@
 use gdi_read::LineRead;
 use refusal::Refusal;
 use std::{fmt, io};
+use text::row_line;
+
+// The digits of 32,768 bytes, and a newline.
+const LINE: usize = 65537;
 
 // What a function answered, where it refused nothing.
 #[derive(Clone, Copy)]
@@ -28,19 +32,15 @@ impl fmt::Display for Answer {
     }
 }
 
-// Bytes in capital digits, `-` for none.
-#[derive(Clone, Copy)]
-pub struct Digits<'a>(pub &'a [u8]);
-
-impl fmt::Display for Digits<'_> {
-    fn fmt<W: fmt::Write>(&self, f: &mut fmt::Formatter<W>) -> fmt::Result {
-        if self.0.is_empty() {
-            return write!(f, "-");
-        }
-        for b in self.0 {
-            write!(f, "{b:02X}")?;
-        }
-        Ok(())
+// Bytes in capital digits, `-` for none: at most as many as a line holds. They are put into a line at once: a format for each byte costs seven times as much.
+pub fn print_digits(rt: &impl Print, bytes: &[u8]) -> io::Result<()> {
+    if bytes.is_empty() {
+        return print!(rt; "-");
+    }
+    let mut line = [0u8; LINE];
+    match row_line(bytes, &mut line).and_then(|n| line.get(..n.saturating_sub(1))) {
+        Some(digits) => rt.write_all(digits),
+        None => Ok(()),
     }
 }
 

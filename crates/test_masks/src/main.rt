@@ -4,7 +4,7 @@
 
 ghost use Rattle.std.specs.Prelude.{◌≤◌};
 
-use film_commands::{Colour, Mask, Rectangle, Tile, Trapezoid};
+use film_commands::{Colour, Mask, Rectangle, Tile, Trapezoid, Words};
 use film_cursor::{Cursor, Step, advance};
 use film_masks::ink_mask;
 use film_paint::Frame;
@@ -12,17 +12,44 @@ use std::io;
 
 // Words of a sheet: a run group of three lines, in which two runs of line 0 overlap, the run of line 1 has no dots and that of line 2 goes past the film;
 // and an array of two lines of 17 dots.
-const GROUP: &[u8] = b"\x00\x03\x00\x01\x00\x03\x00\x02\x80\x04\x00\x09\x80\x00\x00\x0f\x80\x09";
+const GROUP: Words = Words {
+    load: false,
+    from: 0,
+    to: 9,
+    bytes: b"\x00\x03\x00\x01\x00\x03\x00\x02\x80\x04\x00\x09\x80\x00\x00\x0f\x80\x09",
+};
 
-const ARRAY: &[u8] = b"\x00\x02\x00\x11\xa0\x01\x80\x00\x50\x00\xff\xff";
+const ARRAY: Words = Words {
+    load: false,
+    from: 0,
+    to: 6,
+    bytes: b"\x00\x02\x00\x11\xa0\x01\x80\x00\x50\x00\xff\xff",
+};
 
 // Words of a load: a tile of one line of two dots, 1 and 0, at 1, 2, one dot further for each line; a run group of one line; and an array of one line of
-// 4 dots, its padding bits set.
+// 4 dots, its padding bits set. Each stands at the beginning of its file, after a load's two count words.
 const TILE: &[u8] = b"\x00\x01\x00\x01\x00\x02\x00\x01\x00\x02\x80\x00";
 
-const LOAD_GROUP: &[u8] = b"\x00\x01\x00\x04\x80\x02";
+const LOAD_GROUP: Words = Words {
+    load: true,
+    from: 2,
+    to: 5,
+    bytes: b"\x00\x01\x00\x04\x80\x02",
+};
 
-const LOAD_ARRAY: &[u8] = b"\x00\x01\x00\x04\xff\xff";
+const LOAD_ARRAY: Words = Words {
+    load: true,
+    from: 2,
+    to: 5,
+    bytes: b"\x00\x01\x00\x04\xff\xff",
+};
+
+const NO_WORDS: Words = Words {
+    load: false,
+    from: 0,
+    to: 0,
+    bytes: &[],
+};
 
 const INK: Colour = Colour::Solid(true);
 
@@ -32,18 +59,21 @@ const CLEAR: Colour = Colour::Solid(false);
 const OPAQUE: Colour = Colour::Tile(Tile {
     transparent: false,
     address: 0,
+    to: 8,
     words: TILE,
 });
 
 const TRANSPARENT: Colour = Colour::Tile(Tile {
     transparent: true,
     address: 0,
+    to: 8,
     words: TILE,
 });
 
 const NO_TILE: Colour = Colour::Tile(Tile {
     transparent: false,
     address: 0,
+    to: 2,
     words: &[],
 });
 
@@ -187,7 +217,7 @@ fn load_runs() -> Mask<'static> {
     }
 }
 
-fn samples(s_min: u16, f_min: u16, array: &[u8]) -> Mask {
+fn samples(s_min: u16, f_min: u16, array: Words) -> Mask {
     Mask::Samples {
         s_min,
         f_min,
@@ -201,7 +231,7 @@ fn groups_and_arrays(rt: &impl Print) -> io::Result<()> {
     white(rt, "load-runs", BAND, INK, load_runs())?;
     white(rt, "samples", BAND, INK, samples(2, 3, ARRAY))?;
     white(rt, "load-samples", BAND, INK, samples(1, 14, LOAD_ARRAY))?;
-    white(rt, "no-such-words", BAND, INK, samples(0, 0, &[]))
+    white(rt, "no-such-words", BAND, INK, samples(0, 0, NO_WORDS))
 }
 
 fn tiles(rt: &impl Print) -> io::Result<()> {

@@ -8,6 +8,7 @@ use refusal::Refusal;
 use std::io;
 use strip::{Answer, Receiver};
 use strip_step::step;
+use text::row_line;
 
 const ROW_BYTES: usize = 40;
 
@@ -34,14 +35,14 @@ fn print_answer(rt: &impl Print, place: usize, answer: Result<Answer, Refusal>) 
 }
 
 fn print_rows(rt: &impl Print, dots: &[u8], bands: u8) -> io::Result<()> {
+    let mut line = [0u8; 2 * ROW_BYTES + 1];
     for row in dots
         .chunks_exact(ROW_BYTES)
         .take(BAND_ROWS * usize::from(bands))
     {
-        for b in row {
-            print!(rt; "{b:02X}")?;
+        if row_line(row, &mut line).is_some() {
+            rt.write_all(&line)?;
         }
-        println!(rt; "")?;
     }
     Ok(())
 }

@@ -30,6 +30,6 @@ returns c = λ s least.
     let a = c.args in
     let m = measured _ _ _ c.group_extent.ensures c.ok_or.ensures.value c.in_ok-n.was in
     rw c.part.ensures
-    (whole-at s a.load.now a.args.p 3 _ _ _ _ _
+    (whole-at s a.load.now a.args.p 3 _ _ _ _ _ _
     (load_runs_there a.load.now (words a.args.after.now) least _ c.long.ensures c.in_ok-n.n c.word.ensures c.in_ok-need.ensures.enough m)
-    refl refl)
+    refl refl refl)

@@ -36,7 +36,7 @@ returns c = λ s least.
     let a = c.args in
     let m = array_ok _ _ _ _ c.whole_array.ensures c.in_ok-n.was in
     rw c.part.ensures
-    (whole-at s a.load.now a.args.p 4 _ _ _ _ _
+    (whole-at s a.load.now a.args.p 4 _ _ _ _ _ _
     (load_samples_there a.load.now (words a.args.after.now) least _ c.long.ensures c.in_ok-n.n c.word.ensures c.word-2.ensures
     c.in_ok-need.ensures.enough m.0 m.1)
-    refl refl)
+    refl refl refl)

@@ -29,7 +29,7 @@ pub returns : goal.returns
 unfolding command_of bytes_in part_for
 returns c = λ s l load.
     let a = c.args in
-    whole-at s l a.args.p 2 _ _ _ _ _
+    whole-at s l a.args.p 2 _ _ _ _ _ _
     (priority_read load (words a.args.after.now) a.least c.in_ok-need.ensures.enough c.word.ensures c.if-word-gt255.false
     c.long-value.ensures c.if-value-least.false)
-    refl refl
+    refl refl refl

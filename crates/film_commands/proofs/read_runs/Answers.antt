@@ -30,6 +30,6 @@ returns c = λ l load least.
     let a = c.args in
     let m = measured _ _ _ c.group_extent.ensures c.ok_or.ensures.value c.in_ok-n.was in
     rw c.part.ensures
-    (whole-at a.sheet.now l a.args.p _ _ _ _ _ _
+    (whole-at a.sheet.now l a.args.p _ _ _ _ _ _ _
     (runs_there a.sheet.now a.args.after.now a.args.p a.end c.requires.0 c.requires.1 c.requires.2 load least c.in_ok-n.n c.word.ensures m)
-    refl (omega arith))
+    refl refl (omega arith))

@@ -36,7 +36,7 @@ returns c = λ l load least.
     let a = c.args in
     let m = array_ok _ _ _ _ c.whole_array.ensures c.in_ok-n.was in
     rw c.part.ensures
-    (whole-at a.sheet.now l a.args.p _ _ _ _ _ _
+    (whole-at a.sheet.now l a.args.p _ _ _ _ _ _ _
     (samples_there a.sheet.now a.args.after.now a.args.p a.end c.requires.0 c.requires.1 c.requires.2 load least c.in_ok-n.n
     c.word.ensures c.word-2.ensures m.0 m.1)
-    refl (omega arith))
+    refl refl (omega arith))

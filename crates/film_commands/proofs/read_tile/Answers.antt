@@ -63,8 +63,8 @@ returns c = λ s least.
     let a = c.args in
     let m = measured _ _ _ c.array_extent.ensures c.ok_or.ensures.value c.in_ok-n.was in
     rw c.part.ensures
-    (whole-at s a.load.now a.args.p 3 _ _ _ _ _
+    (whole-at s a.load.now a.args.p 3 _ _ _ _ _ _
     (tile_there a.load.now (words a.args.after.now) least _ _ c.long-address.ensures c.in_ok-need.ensures.enough c.word-mode.ensures c.if-mode-gt1.false
     c.in_ok-n.n m c.word.ensures c.if-word-eq0.false c.word-else-word-eq0.ensures c.if-word-eq0-2.false
     (sym c.padding_set.ensures ∙ c.if-padding_set.false))
-    refl refl)
+    refl refl refl)

@@ -16,6 +16,6 @@ pub returns : goal.returns
 unfolding command_of mask_of bytes_in bytes_in_mask part_for
 returns c = λ s l load least.
     let a = c.args in
-    whole-at s l a.args.p 6 _ _ _ _ _
+    whole-at s l a.args.p 6 _ _ _ _ _ _
     (trapezoid_read load (words a.args.after.now) least c.word.ensures c.word-2.ensures c.word-3.ensures c.word-4.ensures c.word-5.ensures c.word-6.ensures c.in_ok-need.ensures.enough)
-    refl refl
+    refl refl refl
