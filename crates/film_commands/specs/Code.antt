@@ -116,6 +116,11 @@ array_answer past p (some n) t = cond t (Err (record { fault = fault.Padding; pl
 
 -- ---- colours
 
+-- the bytes of a colour's tile; none where it is no tile
+unfoldable pub tile_part : code-colour.Colour → List ℕ
+tile_part (colour.Solid v) = []
+tile_part (colour.Tile t) = t.words.now
+
 -- the colour itself
 unfoldable pub colour_of : code-colour.Colour → Colour
 colour_of (colour.Solid v) = solid v
@@ -204,7 +209,9 @@ pub record CodeCases : Type 0 where
   pub clear_colour : colour_of (colour.Solid false) ≡ solid false
   pub opaque_tile : colour_of (colour.Tile (tile false)) ≡ tiled false 0 example_tile
   pub transparent_tile : colour_of (colour.Tile (tile true)) ≡ tiled true 0 example_tile
+  pub solid_no_words : tile_part (colour.Solid true) ≡ []
+  pub tile_whole : tile_part (colour.Tile (tile true)) ≡ bytes_of example_tile
 
 pub code_cases : CodeCases
-unfolding part_for mask_of command_of bytes_in bytes_in_mask colour_of part_of words bytes_of
+unfolding part_for mask_of command_of bytes_in bytes_in_mask colour_of tile_part part_of words bytes_of
 code_cases = search

@@ -3,11 +3,12 @@
 #![tactic(auto)]
 
 ghost use Rattle.std.specs.Prelude.{◌≡◌, List, ℕ, ◌+◌, ◌<◌, ◌≤◌, ◌^◌, IfErr, IfOk, drop, length};
+ghost use Rattle.std.proofs.Math.Option.{Option};
 ghost use Rattle.film_words.specs.Words.{words, at, long_at};
 ghost use Rattle.film_words.specs.Parts.{part_of};
 ghost use Rattle.film_words.specs.Load.{load_words};
-ghost use Rattle.film_words.specs.Arrays.{array_extent};
 ghost use Rattle.film_words.specs.Padding.{padding_set};
+ghost use Rattle.film_words.specs.Answers.{extent_of};
 ghost use Rattle.film_commands.specs.Commands.{command, command_in};
 ghost use Rattle.film_commands.specs.Code.{array_answer, placed, read_as};
 
@@ -241,11 +242,18 @@ fn read_load_runs<'a>(args: Args<'a>, load: &'a [u8]) -> Result<(Command<'a>, us
     Ok((Command::Paint(runs), args.p + 4))
 }
 
-// How many words the sample array at place q of a file takes, where it is there and no bit is set in its padding; or the refusal, at the code word.
-fn whole_array(file: &[u8], q: usize, past: Fault, p: usize) -> Result<usize, Refusal>
-    ensures { result ≡ array_answer past p (array_extent (drop q (words file.now))) (padding_set (drop q (words file.now))) }
+// How many words the sample array at place q of a file takes, given its extent, where it is there and no bit is set in its padding; or the refusal, at the
+// code word.
+fn whole_array(
+    extent: Option<usize>,
+    file: &[u8],
+    q: usize,
+    past: Fault,
+    p: usize,
+) -> Result<usize, Refusal>
+    ensures { (o : Option ℕ) → extent ≡ extent_of o → result ≡ array_answer past p o (padding_set (drop q (words file.now))) }
 {
-    let n = array_extent(file, q).ok_or(past.at(p))?;
+    let n = extent.ok_or(past.at(p))?;
     if padding_set(file, q) {
         return Err(Fault::Padding.at(p));
     }
@@ -261,7 +269,8 @@ fn read_samples<'a>(
     requires { (args.p < end) × (end ≤ length (words sheet.now)) × (args.after.now ≡ part_of sheet.now (args.p + 1) end) }
     ensures { (l load : List ℕ) (least : ℕ) → read_as result ≡ placed sheet.now l args.entry.p (command load least 9 (words args.entry.after.now)) }
 {
-    let n = whole_array(args.after, 2, Fault::Cut, args.p)?;
+    let extent = array_extent(args.after, 2);
+    let n = whole_array(extent, args.after, 2, Fault::Cut, args.p)?;
     let from = args.p + 3;
     let to = from + n;
     let samples = Mask::Samples {
@@ -282,7 +291,8 @@ fn read_load_samples<'a>(args: Args<'a>, load: &'a [u8]) -> Result<(Command<'a>,
 {
     args.need(4)?;
     let from = 2 + args.long(0) as usize;
-    let n = whole_array(load, from, Fault::LoadRange, args.p)?;
+    let extent = array_extent(load, from);
+    let n = whole_array(extent, load, from, Fault::LoadRange, args.p)?;
     let to = from + n;
     let samples = Mask::Samples {
         s_min: args.word(2),

@@ -4,7 +4,7 @@ use mathlib.Core.List.{List, [], ◌∷◌, ◌++◌, append_assoc}
 use Prim.Native.Nat.{ℕ, zero, suc, ◌+◌, ◌*◌, ◌-◌, ◌/◌, ◌%◌, ◌^◌, ◌<◌}
 use native.Mathlib.Omega.{arith}
 use native.Mathlib.Numerals.{add-one}
-use lib.ListN.{length, get_or, set, drop}
+use lib.ListN.{length, get_or, set, drop, replicate}
 use lib.Seq.{drop-cons, set_at}
 use Rattle.strip.specs.Dots.{bit_at, index_of, shade, tile_byte, dot_of, four_dots, listed, printed}
 use Rattle.strip_rows.specs.Table.{four, entry_of}
@@ -69,6 +69,10 @@ right_bits b = omega arith
 same-four : (p f s x f' s' x' : ℕ) → Same f x f' x' → Same s x s' x' → four p f s x ≡ four p f' s' x'
 same-four p f s x f' s' x' a b =
     λ k. 64 * shade p (a.0 k + 2 * b.0 k) + 16 * shade p (a.1 k + 2 * b.1 k) + 4 * shade p (a.2 k + 2 * b.2 k) + shade p (a.3 k + 2 * b.3 k)
+
+-- the table as it starts
+unfoldable pub zeros : List ℕ
+zeros = replicate 256 0
 
 -- the table: entry k is four dots by the nibbles of k
 abbrev pub IsTable : ℕ → List ℕ → Type 0

@@ -28,7 +28,7 @@ fn four_dots(palette: u8, low: u8, high: u8) -> u8
 }
 
 // An entry's number has the four dots' low bits as its low nibble, their high bits as its high nibble.
-#[tactic(auto, unfolding(crate::specs::Table::entry_of))]
+#[tactic(auto, unfolding(crate::specs::Table::entry_of, crate::proofs::Laws::zeros))]
 fn table_of(palette: u8) -> [u8; 256]
     ensures { (k : ℕ) → k < 256 → get_or result k 0 ≡ entry_of palette k }
 {

@@ -17,7 +17,7 @@ returns-in_err-n c = λ s least.
     let a = c.args in
     let x = err_from_is_err_and c.from_residual-in_err-n.result c.from_residual-in_err-n.ensures.1 in
     rw (x.1, x.2)
-    (elim (array_err _ _ _ _ c.whole_array.ensures c.in_err-n.was) [
+    (elim (array_err _ _ _ _ (c.whole_array.ensures _ c.array_extent-extent.ensures) c.in_err-n.was) [
       | inl m ↦
           refused-at s a.load.now a.args.p _ m.1
           (load_samples_past a.load.now (words a.args.after.now) least _ c.long.ensures c.in_ok-need.ensures.enough m.0)
@@ -28,13 +28,13 @@ returns-in_err-n c = λ s least.
 
 pub overflow_add-to : goal.overflow_add-to
 overflow_add-to c =
-    omega (arith, array_room c.args.load.now (2 + c.long.result) c.in_ok-n.n (array_ok _ _ _ _ c.whole_array.ensures c.in_ok-n.was).0)
+    omega (arith, array_room c.args.load.now (2 + c.long.result) c.in_ok-n.n (array_ok _ _ _ _ (c.whole_array.ensures _ c.array_extent-extent.ensures) c.in_ok-n.was).0)
 
 pub returns : goal.returns
 unfolding command_of mask_of bytes_in bytes_in_mask part_for
 returns c = λ s least.
     let a = c.args in
-    let m = array_ok _ _ _ _ c.whole_array.ensures c.in_ok-n.was in
+    let m = array_ok _ _ _ _ (c.whole_array.ensures _ c.array_extent-extent.ensures) c.in_ok-n.was in
     rw c.part.ensures
     (whole-at s a.load.now a.args.p 4 _ _ _ _ _ _
     (load_samples_there a.load.now (words a.args.after.now) least _ c.long.ensures c.in_ok-n.n c.word.ensures c.word-2.ensures
