@@ -5,7 +5,7 @@ ghost use Rattle.std.specs.Prelude.{◌≤◌, length, IfSome};
 use std::str::FromStr;
 
 // The number in decimal, where its type has it.
-pub fn number<T: FromStr>(field: &[u8]) -> Option<T>
+pub(super) fn number<T: FromStr>(field: &[u8]) -> Option<T>
 where
     T::Err: Drop,
 {
@@ -121,7 +121,7 @@ fn decode(field: &[u8], out: &mut [u8]) -> Option<usize> {
 }
 
 // The bytes of the field, in the buffer that is lent.
-pub fn bytes<'a>(field: &[u8], out: &'a mut [u8]) -> Option<&'a mut [u8]> {
+pub(super) fn bytes<'a>(field: &[u8], out: &'a mut [u8]) -> Option<&'a mut [u8]> {
     let n = decode(field, out)?;
     out.get_mut(..n)
 }

@@ -33,7 +33,7 @@ impl fmt::Display for Answer {
 }
 
 // Bytes in capital digits, `-` for none: at most as many as a line holds. They are put into a line at once: a format for each byte costs seven times as much.
-pub fn print_digits(rt: &impl Print, bytes: &[u8]) -> io::Result<()> {
+pub(super) fn print_digits(rt: &impl Print, bytes: &[u8]) -> io::Result<()> {
     if bytes.is_empty() {
         return print!(rt; "-");
     }
@@ -44,7 +44,7 @@ pub fn print_digits(rt: &impl Print, bytes: &[u8]) -> io::Result<()> {
     }
 }
 
-pub fn print_answer(rt: &impl Print, answer: Result<Answer, Refusal>) -> io::Result<()> {
+pub(super) fn print_answer(rt: &impl Print, answer: Result<Answer, Refusal>) -> io::Result<()> {
     match answer {
         Ok(answer) => print!(rt; "{answer}"),
         Err(refusal) => print!(rt; "{refusal}"),
@@ -52,17 +52,17 @@ pub fn print_answer(rt: &impl Print, answer: Result<Answer, Refusal>) -> io::Res
 }
 
 // The case's name and a blank.
-pub fn print_name(rt: &impl Print, name: &[u8]) -> io::Result<()> {
+pub(super) fn print_name(rt: &impl Print, name: &[u8]) -> io::Result<()> {
     rt.write_all(name)?;
     print!(rt; " ")
 }
 
 // Ends the line, and begins another of the same case.
-pub fn print_next(rt: &impl Print, name: &[u8]) -> io::Result<()> {
+pub(super) fn print_next(rt: &impl Print, name: &[u8]) -> io::Result<()> {
     println!(rt; "")?;
     print_name(rt, name)
 }
 
-pub fn print_bad_line(rt: &impl Print) -> io::Result<()> {
+pub(super) fn print_bad_line(rt: &impl Print) -> io::Result<()> {
     print!(rt; "bad line")
 }
